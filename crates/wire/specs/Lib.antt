@@ -1,0 +1,4 @@
+pub mod Reply
+pub mod Standards
+pub mod BigEndian
+pub mod Signed

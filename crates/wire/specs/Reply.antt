@@ -1,0 +1,23 @@
+-- What a call answers: a number of document 01's table "Numbers a call can refuse with", or what the call gives.
+-- Assumes nothing.
+use Prim.Native.Nat.{ℕ, zero, suc}
+use mathlib.Core.Bool.{Bool, true, false}
+
+pub data Reply (A : Type 0) : Type 0 where
+  refused : ℕ → Reply A
+  given : A → Reply A
+
+-- the number n unless the condition holds, else what follows: a chain of these gives the first number that applies, and 0 where none does
+abbrev pub must : Bool → ℕ → ℕ → ℕ
+must true n rest = rest
+must false n rest = n
+
+-- the first of two numbers that is not 0
+abbrev pub orElse : ℕ → ℕ → ℕ
+orElse zero n = n
+orElse (suc m) n = suc m
+
+-- a number refuses; 0 gives
+abbrev pub reply : {A : Type 0} → ℕ → A → Reply A
+reply zero a = given a
+reply (suc n) a = refused (suc n)

@@ -1,0 +1,92 @@
+// Big-endian numbers, two's complement, and bytes put into a lent buffer: what every format here is made of.
+ghost use mathlib.Core.Path.{_≡_};
+ghost use mathlib.Core.List.{_++_};
+ghost use Prim.Native.Nat.{_+_, _≤_};
+ghost use lib.ListN.{length, take, drop};
+ghost use Rattle.wire.specs.BigEndian.{be16, be24, be32, byte0, byte1, byte2, byte3};
+ghost use Rattle.wire.specs.Signed.{signed16, signed24};
+
+// The number that two bytes spell.
+pub fn number16(a: u8, b: u8) -> u16
+    ensures { λ r. ⌜ r ≡ be16 a b ⌝ }
+{
+    (a as u16) * 256 + (b as u16)
+}
+
+// The number that three bytes spell.
+pub fn number24(a: u8, b: u8, c: u8) -> u32
+    ensures { λ r. ⌜ r ≡ be24 a b c ⌝ }
+{
+    (a as u32) * 65536 + (b as u32) * 256 + (c as u32)
+}
+
+// The number that four bytes spell.
+pub fn number32(a: u8, b: u8, c: u8, d: u8) -> u32
+    ensures { λ r. ⌜ r ≡ be32 a b c d ⌝ }
+{
+    (a as u32) * 16777216 + (b as u32) * 65536 + (c as u32) * 256 + (d as u32)
+}
+
+// Byte 0 of a number, its least significant.
+pub fn low_byte(w: u32) -> u8
+    ensures { λ r. ⌜ r ≡ byte0 w ⌝ }
+{
+    (w % 256) as u8
+}
+
+// Byte 1 of a number.
+pub fn second_byte(w: u32) -> u8
+    ensures { λ r. ⌜ r ≡ byte1 w ⌝ }
+{
+    (w / 256 % 256) as u8
+}
+
+// Byte 2 of a number.
+pub fn third_byte(w: u32) -> u8
+    ensures { λ r. ⌜ r ≡ byte2 w ⌝ }
+{
+    (w / 65536 % 256) as u8
+}
+
+// Byte 3 of a number.
+pub fn fourth_byte(w: u32) -> u8
+    ensures { λ r. ⌜ r ≡ byte3 w ⌝ }
+{
+    (w / 16777216 % 256) as u8
+}
+
+// The signed number that 16 bits mean.
+pub fn signed_16(v: u16) -> i16
+    ensures { λ r. ⌜ r ≡ signed16 v ⌝ }
+{
+    if v < 32768 {
+        return v as i16;
+    }
+    let w = 65535 - v;
+    -1 - (w as i16)
+}
+
+// The signed number that three bytes mean.
+pub fn signed_24(a: u8, b: u8, c: u8) -> i32
+    ensures { λ r. ⌜ r ≡ signed24 (be24 a b c) ⌝ }
+{
+    let v = number24(a, b, c);
+    if v < 8388608 {
+        return v as i32;
+    }
+    let w = 16777215 - v;
+    -1 - (w as i32)
+}
+
+// Puts all of src into dst from byte `at` on.
+// A helper of the crates above, and no call of the product: its callers see to the room.
+pub fn put(dst: &mut [u8], at: usize, src: &[u8])
+    requires { ⌜ at + length (now src) ≤ length (now dst) ⌝ }
+    ensures { λ _. ⌜ now (dst .exit) ≡ take at (now (dst .entry)) ++ now (src .entry) ++ drop (at + length (now (src .entry))) (now (dst .entry)) ⌝ }
+{
+    let mut i = 0;
+    while i < src.len() {
+        dst[at + i] = src[i];
+        i += 1;
+    }
+}
