@@ -1,0 +1,4 @@
+pub mod Lengths
+pub mod Sets
+pub mod Turns
+pub mod Form

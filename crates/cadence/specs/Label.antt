@@ -1,0 +1,32 @@
+-- A packet's label, its place 0 to n − 1 in its cadence (document 01, "Cadence", "Steps of a slave" and "Runs"). Label 0 is the mark.
+-- Assumes nothing.
+use Prim.Native.Nat.{ℕ, _+_, _-_, _%_}
+use lib.Dec.{ltb}
+use Rattle.wire.specs.Reply.{Reply, refused, given, must, reply}
+use Rattle.cadence.specs.declared.Answer.{Answer}
+use Rattle.cadence.specs.declared.Answer.the-variants.{Given, Refused}
+
+-- the label of a packet from its pointer, the packets between it and the next mark (TS 101 191 clause 6)
+abbrev pub labelOf : ℕ → ℕ → ℕ
+labelOf n pointer = n - 1 - pointer
+
+-- and back: the same map gives the pointer that the adapter writes at a label
+abbrev pub pointerOf : ℕ → ℕ → ℕ
+pointerOf n label = labelOf n label
+
+-- 12 refuses a pointer of n or more, and likewise a label
+abbrev pub within : ℕ → ℕ → ℕ → Reply ℕ
+within n x value = reply (must (ltb x n) 12 0) value
+
+-- the label of the adapter's packet at place t
+abbrev pub labelAt : ℕ → ℕ → ℕ
+labelAt n t = t % n
+
+-- the label after l: l + 1, and 0 after n − 1
+abbrev pub nextLabel : ℕ → ℕ → ℕ
+nextLabel n l = (l + 1) % n
+
+-- what the two calls answer
+abbrev pub replyOf : Answer → Reply ℕ
+replyOf (Given x) = given x
+replyOf (Refused number) = refused number

@@ -1,0 +1,3 @@
+pub mod Cadence
+pub mod Label
+pub mod MobileFrame
