@@ -1,4 +1,4 @@
--- n, the packets of a cadence (document 01, "Cadence"): a mega-frame's in profile 0 (TS 101 191 clause 5), 624 in profile 1 (A/110 9.1.2.1).
+-- n, the packets of a cadence (document 01, "Cadence"): the data frame of A/110 9.1.2.1 and the mega-frames of TS 101 191 clause 5.
 -- Assumes nothing.
 use Prim.Native.Nat.{ℕ, _*_, _/_}
 use mathlib.Core.Bool.{Bool, true, false, cond, _&&_, _||_}
@@ -9,13 +9,17 @@ use Rattle.cadence.specs.declared.Constellation.the-variants.{Qpsk, Qam1
 use Rattle.cadence.specs.declared.CodeRate.{CodeRate}
 use Rattle.cadence.specs.declared.CodeRate.the-variants.{Half, TwoThirds, ThreeQuarters, FiveSixths, SevenEighths}
 
--- v, the bits of a constellation
+-- profile 1: 312 × 2 packets, a data frame, from one Cadence Sync Point to the next
+abbrev pub dataFrame : ℕ
+dataFrame = 624
+
+-- profile 0: v, the bits of a constellation
 abbrev pub bitsOf : Constellation → ℕ
 bitsOf Qpsk = 2
 bitsOf Qam16 = 4
 bitsOf Qam64 = 6
 
--- r, a code rate, by its numerator and its denominator
+-- r, the code rate, by its numerator and its denominator
 abbrev pub numeratorOf : CodeRate → ℕ
 numeratorOf Half = 1
 numeratorOf TwoThirds = 2
@@ -30,7 +34,7 @@ denominatorOf ThreeQuarters = 4
 denominatorOf FiveSixths = 6
 denominatorOf SevenEighths = 8
 
--- a mega-frame's packets, n = 2016 × v × r
+-- the packets of a mega-frame, n = 2016 × v × r
 abbrev pub lengthOf : Constellation → CodeRate → ℕ
 lengthOf c r = 2016 * bitsOf c * numeratorOf r / denominatorOf r
 
@@ -46,17 +50,14 @@ abbrev pub anyOf : {A : Type 0} → List A → (A → Bool) → Bool
 anyOf [] f = false
 anyOf (x ∷ xs) f = f x || anyOf xs f
 
--- n is a mega-frame's length with this constellation; with any of the three
-abbrev pub atSomeRate : ℕ → Constellation → Bool
+-- n is the length of a mega-frame with this constellation
+unfoldable pub atSomeRate : ℕ → Constellation → Bool
 atSomeRate n c = anyOf codeRates (λ r. eqb n (lengthOf c r))
 
-abbrev pub isMegaFrame : ℕ → Bool
+-- n is the length of a mega-frame, one of the fifteen
+unfoldable pub isMegaFrame : ℕ → Bool
 isMegaFrame n = anyOf constellations (atSomeRate n)
 
--- the data frame cadence of A/110: 312 × 2 packets from one Cadence Sync Point to the next
-abbrev pub dataFrame : ℕ
-dataFrame = 624
-
--- the profile has cadences of n packets
-abbrev pub admits : ℕ → ℕ → Bool
+-- the profile has cadences of n packets; another profile has none
+unfoldable pub admits : ℕ → ℕ → Bool
 admits profile n = cond (eqb profile 1) (eqb n dataFrame) (eqb profile 0 && isMegaFrame n)

@@ -6,15 +6,15 @@ use Rattle.wire.specs.Reply.{Reply, refused, given, must, reply}
 use Rattle.cadence.specs.declared.Answer.{Answer}
 use Rattle.cadence.specs.declared.Answer.the-variants.{Given, Refused}
 
--- the label of a packet from its pointer, the packets between it and the next mark (TS 101 191 clause 6)
+-- the label of the packet with this pointer, the number of packets between it and the next mark (TS 101 191 clause 6)
 abbrev pub labelOf : ℕ → ℕ → ℕ
 labelOf n pointer = n - 1 - pointer
 
--- and back: the same map gives the pointer that the adapter writes at a label
+-- and back: the pointer that the adapter writes at this label, by the same map
 abbrev pub pointerOf : ℕ → ℕ → ℕ
 pointerOf n label = labelOf n label
 
--- 12 refuses a pointer of n or more, and likewise a label
+-- number 12 refuses a pointer of n or more, and a label of n or more alike
 abbrev pub within : ℕ → ℕ → ℕ → Reply ℕ
 within n x value = reply (must (ltb x n) 12 0) value
 
@@ -26,7 +26,7 @@ labelAt n t = t % n
 abbrev pub nextLabel : ℕ → ℕ → ℕ
 nextLabel n l = (l + 1) % n
 
--- what the two calls answer
+-- what an answer of the calls says
 abbrev pub replyOf : Answer → Reply ℕ
 replyOf (Given x) = given x
 replyOf (Refused number) = refused number

@@ -1,15 +1,19 @@
 // The cadence: how many packets it has, the label of a packet in it, and the packet's place in the M/H frame.
 ghost use mathlib.Core.Path.{_≡_};
-ghost use Rattle.cadence.specs.Cadence.{bitsOf, numeratorOf, denominatorOf, lengthOf, atSomeRate, admits};
+ghost use mathlib.Core.List.{[], _∷_};
+ghost use lib.Dec.{eqb};
+ghost use Rattle.cadence.specs.Cadence.{bitsOf, numeratorOf, denominatorOf, lengthOf, anyOf, atSomeRate, isMegaFrame, admits};
 ghost use Rattle.cadence.specs.Label.{labelOf, pointerOf, within, replyOf};
 ghost use Rattle.cadence.specs.MobileFrame.{mobilePlace};
 
+// How many bits a carrier has: v is 2, 4 or 6.
 pub enum Constellation {
     Qpsk,
     Qam16,
     Qam64,
 }
 
+// r is 1/2, 2/3, 3/4, 5/6 or 7/8.
 pub enum CodeRate {
     Half,
     TwoThirds,
@@ -18,12 +22,13 @@ pub enum CodeRate {
     SevenEighths,
 }
 
-// A label or a pointer, or document 01's number.
+// A label or a pointer, or the number that document 01 refuses with.
 pub enum Answer {
     Given(u16),
     Refused(u8),
 }
 
+// v.
 fn bits(c: Constellation) -> u32
     ensures { λ v. ⌜ v ≡ bitsOf c ⌝ }
 {
@@ -34,6 +39,7 @@ fn bits(c: Constellation) -> u32
     }
 }
 
+// The numerator of r.
 fn numerator(r: CodeRate) -> u32
     ensures { λ k. ⌜ k ≡ numeratorOf r ⌝ }
 {
@@ -46,6 +52,7 @@ fn numerator(r: CodeRate) -> u32
     }
 }
 
+// The denominator of r.
 fn denominator(r: CodeRate) -> u32
     ensures { λ k. ⌜ k ≡ denominatorOf r ⌝ }
 {
@@ -58,40 +65,68 @@ fn denominator(r: CodeRate) -> u32
     }
 }
 
-// The packets of a mega-frame.
+// The packets of a mega-frame: 2016 × v × r.
 pub fn length(c: Constellation, r: CodeRate) -> u16
     ensures { λ n. ⌜ n ≡ lengthOf c r ⌝ }
 {
     (2016 * bits(c) * numerator(r) / denominator(r)) as u16
 }
 
-// Whether n is a mega-frame's length with this constellation.
-fn at_some_rate(n: u16, c: Constellation) -> bool
-    ensures { λ b. ⌜ b ≡ atSomeRate n c ⌝ }
+// Whether n is one of five numbers.
+fn one_of(n: u16, a: u16, b: u16, c: u16, d: u16, e: u16) -> bool
+    ensures { λ y. ⌜ y ≡ anyOf (a ∷ b ∷ c ∷ d ∷ e ∷ []) (eqb n) ⌝ }
 {
-    let half = length(c, CodeRate::Half);
-    if n == half {
+    if n == a {
         return true;
     }
-    let two_thirds = length(c, CodeRate::TwoThirds);
-    if n == two_thirds {
+    if n == b {
         return true;
     }
-    let three_quarters = length(c, CodeRate::ThreeQuarters);
-    if n == three_quarters {
+    if n == c {
         return true;
     }
-    let five_sixths = length(c, CodeRate::FiveSixths);
-    if n == five_sixths {
+    if n == d {
         return true;
     }
-    let seven_eighths = length(c, CodeRate::SevenEighths);
-    n == seven_eighths
+    if n == e {
+        return true;
+    }
+    false
+}
+
+// Whether n is the length of a mega-frame with this constellation.
+fn at_some_rate(n: u16, c: Constellation) -> bool
+    ensures { λ y. ⌜ y ≡ atSomeRate n c ⌝ }
+{
+    one_of(
+        n,
+        length(c, CodeRate::Half),
+        length(c, CodeRate::TwoThirds),
+        length(c, CodeRate::ThreeQuarters),
+        length(c, CodeRate::FiveSixths),
+        length(c, CodeRate::SevenEighths),
+    )
+}
+
+// Whether n is the length of a mega-frame.
+fn is_mega_frame(n: u16) -> bool
+    ensures { λ y. ⌜ y ≡ isMegaFrame n ⌝ }
+{
+    if at_some_rate(n, Constellation::Qpsk) {
+        return true;
+    }
+    if at_some_rate(n, Constellation::Qam16) {
+        return true;
+    }
+    if at_some_rate(n, Constellation::Qam64) {
+        return true;
+    }
+    false
 }
 
 // Whether the profile has cadences of n packets.
 pub fn admits(profile: u8, n: u16) -> bool
-    ensures { λ b. ⌜ b ≡ admits profile n ⌝ }
+    ensures { λ y. ⌜ y ≡ admits profile n ⌝ }
 {
     if profile == 1 {
         return n == 624;
@@ -99,15 +134,7 @@ pub fn admits(profile: u8, n: u16) -> bool
     if profile != 0 {
         return false;
     }
-    let qpsk = at_some_rate(n, Constellation::Qpsk);
-    if qpsk {
-        return true;
-    }
-    let qam16 = at_some_rate(n, Constellation::Qam16);
-    if qam16 {
-        return true;
-    }
-    at_some_rate(n, Constellation::Qam64)
+    is_mega_frame(n)
 }
 
 // The label of the packet whose notice has this pointer.

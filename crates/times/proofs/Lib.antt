@@ -1,0 +1,4 @@
+pub mod Whole
+pub mod Signed64
+pub mod Formulas
+pub mod Answers

@@ -42,11 +42,11 @@ abbrev pub inSecond : ℕ → ℕ → Bool
 inSecond u t = ltb t u
 
 -- 13: MD + OD is within 0 to u − 1
-abbrev pub delayFits : ℕ → ℕ → ℤ → Bool
+unfoldable pub delayFits : ℕ → ℕ → ℤ → Bool
 delayFits u md od = within 0 u (pos md +ℤ od)
 
 -- 13 in profile 1: MD + OD + TAD is also within 1 to u − 1 (A/110 6.4.2)
-abbrev pub delayFitsA110 : ℕ → ℕ → ℤ → ℕ → Bool
+unfoldable pub delayFitsA110 : ℕ → ℕ → ℤ → ℕ → Bool
 delayFitsA110 u md od tad = delayFits u md od && within 1 u (pos md +ℤ od +ℤ pos tad)
 
 -- what a mark is released with

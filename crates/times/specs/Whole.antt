@@ -16,5 +16,5 @@ residue u (pos k) = k % u
 residue u (negsuc k) = u - suc (k % u)
 
 -- z is within low to u − 1
-abbrev pub within : ℕ → ℕ → ℤ → Bool
+unfoldable pub within : ℕ → ℕ → ℤ → Bool
 within low u z = leZ (pos low) z && ltZ z (pos u)

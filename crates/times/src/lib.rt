@@ -3,6 +3,7 @@
 ghost use mathlib.Core.Path.{_≡_};
 ghost use mathlib.Core.Bool.{true};
 ghost use Prim.Native.Nat.{_+_, _≤_, _<_, _^_};
+ghost use lib.IntN.{pos, _+ℤ_};
 ghost use Rattle.wire.specs.Standards.{dvbSecond, a110Second};
 ghost use Rattle.times.specs.Whole.{plus, within};
 ghost use Rattle.times.specs.Release.{wrap, reference, emission, modulation, linkDelay, wait, inSecond, delayFits, delayFitsA110, limits, releaseOf, dvbRelease, a110Release};
@@ -79,11 +80,19 @@ fn sum_within(low: u32, u: u32, sum: i64) -> bool
     sum < u as i64
 }
 
+// MD + OD.
+fn delay(md: u32, od: i16) -> i64
+    ensures { λ r. ⌜ r ≡ pos md +ℤ od ⌝ }
+{
+    md as i64 + od as i64
+}
+
 // 13 in profile 0, and the first part of it in profile 1.
 fn delay_fits(u: u32, md: u32, od: i16) -> bool
     ensures { λ r. ⌜ r ≡ delayFits u md od ⌝ }
 {
-    sum_within(0, u, md as i64 + od as i64)
+    let sum = delay(md, od);
+    sum_within(0, u, sum)
 }
 
 // 13 in profile 1.
@@ -91,7 +100,8 @@ fn total_fits(u: u32, md: u32, od: i16, tad: u32) -> bool
     ensures { λ r. ⌜ r ≡ delayFitsA110 u md od tad ⌝ }
 {
     if delay_fits(u, md, od) {
-        return sum_within(1, u, md as i64 + od as i64 + tad as i64);
+        let sum = delay(md, od) + tad as i64;
+        return sum_within(1, u, sum);
     }
     false
 }
@@ -141,8 +151,8 @@ fn emission_time(u: u32, sts: u32, md: u32, od: i16) -> u32
     requires { ⌜ (sts + u < 2 ^ 32) × (delayFits u md od ≡ true) ⌝ }
     ensures { λ r. ⌜ r ≡ emission u sts md od ⌝ }
 {
-    let delay = (md as i64 + od as i64) as u32;
-    wrapped(u, sts + delay)
+    let sum = delay(md, od) as u32;
+    wrapped(u, sts + sum)
 }
 
 // The modulation time of an emission time.

@@ -1,0 +1,7 @@
+-- The laws of the check value, and what they and the functions' proofs are made of.
+-- Assumes nothing.
+pub mod Xor
+pub mod Bits
+pub mod Nibbles
+pub mod Turns
+pub mod Laws

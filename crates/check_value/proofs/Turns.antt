@@ -1,0 +1,114 @@
+-- What holds at each turn of `register_of`'s loops, and that a turn of one byte or of eight keeps it.
+-- Assumes nothing.
+use mathlib.Core.Path.{_≡_, refl, sym, ap, ap₂, _∙_, subst}
+use mathlib.Core.List.{List, [], _∷_}
+use Prim.Native.Nat.{ℕ, zero, suc, _+_, _*_, _/_, _%_, _^_, _<_, _≤_}
+use native.Mathlib.Nat.{add-zero, add-suc, suc-add, zero-add, le-of-suc-le-suc, not-suc-le-zero, div-one, mod-one}
+use native.Mathlib.Numerals.{add-one}
+use native.Mathlib.Omega.{arith}
+use lib.ListN.{length, drop, getD, drop-of-length-le}
+use lib.Seq.{drop-cons}
+use lib.Bits.{bitXor, xor-comm}
+use Rattle.check_value.specs.Register.{bitsIn, registerFrom, register}
+use Rattle.check_value.specs.Table.{wordAt, leftOf, IsTable}
+use Rattle.check_value.proofs.Bits.{bits-fit, bits-apart, bits-enter, four-bytes}
+
+-- the values of f at n numbers from i on
+unfoldable pub valuesOf : (ℕ → ℕ) → ℕ → ℕ → List ℕ
+valuesOf f zero i = []
+valuesOf f (suc n) i = f i ∷ valuesOf f n (suc i)
+
+value-at : (f : ℕ → ℕ) (n i k : ℕ) → k < n → getD (valuesOf f n i) k 0 ≡ f (i + k)
+unfolding valuesOf
+value-at f zero i k h = absurd (not-suc-le-zero h)
+value-at f (suc n) i zero h = ap f (sym (add-zero i))
+value-at f (suc n) i (suc k) h = value-at f n (suc i) k (le-of-suc-le-suc h) ∙ ap f (suc-add i k ∙ sym (add-suc i k))
+
+-- the rule of the whole table by one test, which antt computes
+pub is-table : (t : List ℕ) → t ≡ valuesOf (λ k. leftOf 4 (k % 16) (k / 16 * 4)) 256 0 → IsTable t
+is-table t e =
+    record {
+      entry =
+          λ k h.
+          ap (λ (l : List ℕ). getD l k 0) e
+          ∙ value-at (λ k. leftOf 4 (k % 16) (k / 16 * 4)) 256 0 k h
+          ∙ ap (λ (j : ℕ). leftOf 4 (j % 16) (j / 16 * 4)) (zero-add k);
+    }
+
+-- the register z, once i bytes of s have entered: the rest of s takes it to the register of s
+pub record Reached (s t : List ℕ) (z i : ℕ) : Type 0 where
+  pub inside : i ≤ length s
+  pub fits : z < 2 ^ 32
+  pub rest : registerFrom z (drop i s) ≡ register s
+  pub table : IsTable t
+
+pub at-start : (s t : List ℕ) → IsTable t → Reached s t 0xFFFF_FFFF 0
+unfolding register
+at-start s t h = record { inside = omega arith; fits = omega arith; rest = refl; table = h }
+
+pub at-end : (s t : List ℕ) (z i : ℕ) → length s ≤ i → Reached s t z i → z ≡ register s
+unfolding registerFrom
+at-end s t z i h r = ap (registerFrom z) (sym (drop-of-length-le s h)) ∙ r .rest
+
+-- a byte more
+next-byte : (s : List ℕ) (i z : ℕ) → i < length s → registerFrom z (drop i s) ≡ registerFrom (bitsIn 8 z (getD s i 0)) (drop (i + 1) s)
+unfolding registerFrom
+next-byte s i z h =
+    ap (registerFrom z) (drop-cons s i 0 h) ∙ ap (λ (k : ℕ). registerFrom (bitsIn 8 z (getD s i 0)) (drop k s)) (sym (add-one i))
+
+-- a word more
+next-word : (s : List ℕ) (i z : ℕ) → ((k : ℕ) → getD s k 0 < 2 ^ 8) → i + 4 ≤ length s
+    → registerFrom z (drop i s) ≡ registerFrom (bitsIn 32 z (wordAt s i)) (drop (i + 4) s)
+next-word s i z bytes h =
+    let e₁ : i + 1 + 1 ≡ i + 2 = omega arith in
+    let e₂ : i + 2 + 1 ≡ i + 3 = omega arith in
+    let e₃ : i + 3 + 1 ≡ i + 4 = omega arith in
+    let next : (k : ℕ) → ℕ → ℕ = λ k y. bitsIn 8 y (getD s k 0) in
+    let at : ℕ → ℕ → ℕ = λ y k. registerFrom y (drop k s) in
+    next-byte s i z (omega arith)
+    ∙ next-byte s (i + 1) (next i z) (omega arith)
+    ∙ ap (at (next (i + 1) (next i z))) e₁
+    ∙ next-byte s (i + 2) (next (i + 1) (next i z)) (omega arith)
+    ∙ ap (at (next (i + 2) (next (i + 1) (next i z)))) e₂
+    ∙ next-byte s (i + 3) (next (i + 2) (next (i + 1) (next i z))) (omega arith)
+    ∙ ap₂ at (four-bytes z (getD s i 0) (getD s (i + 1) 0) (getD s (i + 2) 0) (getD s (i + 3) 0) (bytes (i + 1)) (bytes (i + 2)) (bytes (i + 3))) e₃
+
+-- two words: the first is added to the register, and both leave their part of the next one
+two-words : (z v w : ℕ) → z < 2 ^ 32 → bitXor (leftOf 32 w (0 * 4)) (leftOf 32 (bitXor z v) (8 * 4)) ≡ bitsIn 32 (bitsIn 32 z v) w
+unfolding leftOf bitsIn
+two-words z v w h =
+    let low : z % 2 ^ 0 * 2 ^ 32 ≡ 0 = omega (arith, mod-one z) in
+    let first : bitsIn 32 z v ≡ bitsIn 32 0 (bitXor z v) =
+    bits-enter 32 0 z v refl h
+    ∙ ap₂ (λ (x y : ℕ). bitXor x (bitsIn 32 0 (bitXor y v))) low (div-one z) in
+    xor-comm (bitsIn 32 0 w) (bitsIn 32 (bitsIn 32 0 (bitXor z v)) 0)
+    ∙ ap (λ (x : ℕ). bitXor (bitsIn 32 x 0) (bitsIn 32 0 w)) (sym first)
+    ∙ sym (bits-apart 32 (bitsIn 32 z v) w)
+
+pub after-byte : (s t : List ℕ) (z i y : ℕ) → i < length s → y ≡ bitsIn 8 z (getD s i 0) → Reached s t z i → Reached s t y (i + 1)
+after-byte s t z i y h e r =
+    record {
+      inside = omega arith;
+      fits = subst (λ (x : ℕ). x < 2 ^ 32) (sym e) (bits-fit 8 z (getD s i 0) (r .fits));
+      rest = ap (λ (x : ℕ). registerFrom x (drop (i + 1) s)) e ∙ sym (next-byte s i z h) ∙ r .rest;
+      table = r .table;
+    }
+
+pub after-eight : (s t : List ℕ) (z i v w a b : ℕ) → ((k : ℕ) → getD s k 0 < 2 ^ 8) → i + 8 ≤ length s
+    → v ≡ wordAt s i → w ≡ wordAt s (i + 4) → a ≡ leftOf 32 w (0 * 4) → b ≡ leftOf 32 (bitXor z v) (8 * 4)
+    → Reached s t z i → Reached s t (bitXor a b) (i + 8)
+after-eight s t z i v w a b bytes h ev ew ea eb r =
+    let four : i + 4 + 4 ≡ i + 8 = omega arith in
+    let y : ℕ = bitsIn 32 (bitsIn 32 z (wordAt s i)) (wordAt s (i + 4)) in
+    let e : bitXor a b ≡ y =
+    ap₂ bitXor ea eb ∙ two-words z v w (r .fits) ∙ ap₂ (λ (m n : ℕ). bitsIn 32 (bitsIn 32 z m) n) ev ew in
+    record {
+      inside = h;
+      fits = subst (λ (x : ℕ). x < 2 ^ 32) (sym e) (bits-fit 32 (bitsIn 32 z (wordAt s i)) (wordAt s (i + 4)) (bits-fit 32 z (wordAt s i) (r .fits)));
+      rest =
+          ap₂ (λ (x k : ℕ). registerFrom x (drop k s)) e (sym four)
+          ∙ sym (next-word s (i + 4) (bitsIn 32 z (wordAt s i)) bytes (omega arith))
+          ∙ sym (next-word s i z bytes (omega arith))
+          ∙ r .rest;
+      table = r .table;
+    }

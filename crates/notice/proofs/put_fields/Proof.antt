@@ -1,0 +1,42 @@
+-- `notice::put_fields` meets its contract.
+-- Assumes nothing.
+use borrow.Author.Needs.{needs}
+use denote.Ref.{now}
+use Rattle.notice.proofs.Writing.{fields-put}
+use Rattle.notice.proofs.put_fields.Statement.{statement}
+use Rattle.notice.proofs.put_fields.Tie as tie
+
+cast-head-of : tie.Need-cast-head-of
+cast-head-of c = search needs
+
+head-of-requires : tie.Need-head-of-requires
+head-of-requires c κs = search needs
+
+slice-aggregate-put : tie.Need-slice-aggregate-put
+slice-aggregate-put c = search needs
+
+put-requires : tie.Need-put-requires
+put-requires c κs = search needs
+
+put-requires-2 : tie.Need-put-requires-2
+put-requires-2 c κs = search needs
+
+same-length : tie.Need-same-length
+same-length c = search needs
+
+returns : tie.Need-returns
+returns c = 
+    let a = c .before .before .before .before .before .before .before .before .before .before .before .before .args in
+    fields-put (a .n) (now (a .field)) (now (a .out)) (c .before .before .before .before .before .before .put .last .0) (c .before .before .put2 .last .0) (c .before .before .before .before .before .before .before .before .before .head-of .result) (c .before .before .before .before .before .before .before .before .before .head-of .ensures) (c .before .before .before .before .before .before .put .ensures) (c .before .before .put2 .ensures)
+
+pub put-fields-spec : {M : Type 1} → statement M
+put-fields-spec =
+    tie.close
+    (tie.spec
+    cast-head-of
+    head-of-requires
+    slice-aggregate-put
+    put-requires
+    put-requires-2
+    same-length
+    returns)

@@ -1,0 +1,81 @@
+-- `notice::write_refusal` meets its contract.
+-- Assumes nothing.
+use borrow.Author.Needs.{needs}
+use mathlib.Core.Path.{_≡_, sym, ap, _∙_}
+use borrow.Author.Tests.{not-true, not-false}
+use Rattle.wire.proofs.Tests.{tests}
+use native.Mathlib.Omega.{arith}
+use denote.Ref.{now}
+use Rattle.notice.specs.Long.{Writable}
+use Rattle.notice.specs.Writer.{writeRefusal}
+use Rattle.notice.proofs.Writing.{write-10, write-sts, write-md, write-none}
+use Rattle.notice.proofs.write_refusal.Statement.{statement}
+use Rattle.notice.proofs.write_refusal.Tie as tie
+
+returns : tie.Need-returns
+unfolding writeRefusal
+returns c = search tests
+
+returns-2 : tie.Need-returns-2
+unfolding writeRefusal
+returns-2 c = search tests
+
+returns-3 : tie.Need-returns-3
+unfolding writeRefusal
+returns-3 c = search tests
+
+returns-4 : tie.Need-returns-4
+unfolding writeRefusal
+returns-4 c = search tests
+
+well-formed-requires : tie.Need-well-formed-requires
+well-formed-requires c κs = search needs
+
+returns-5 : tie.Need-returns-5
+returns-5 c =
+    let a = c .before .before .before .before .before .before .before .before .before .args in
+    let fits : Writable (a .room) (a .n) (now (a .field)) = omega arith in
+    write-10 (a .room) (a .n) (now (a .field)) fits (sym (c .before .well-formed .ensures) ∙ not-true _ (c .if5 .taken))
+
+dvb-in-second-requires : tie.Need-dvb-in-second-requires
+dvb-in-second-requires c κs = search needs
+
+returns-6 : tie.Need-returns-6
+returns-6 c =
+    let a = c .before .before .before .before .before .before .before .before .before .before .before .before .args in
+    let fits : Writable (a .room) (a .n) (now (a .field)) = omega arith in
+    write-sts (a .room) (a .n) (now (a .field)) fits (sym (c .before .before .before .before .well-formed .ensures) ∙ not-false _ (c .before .before .before .if5 .left))
+    (sym (c .before .dvb-in-second .ensures) ∙ not-true _ (c .if6 .taken))
+
+dvb-in-second-requires-2 : tie.Need-dvb-in-second-requires-2
+dvb-in-second-requires-2 c κs = search needs
+
+returns-7 : tie.Need-returns-7
+returns-7 c =
+    let a = c .before .before .before .before .before .before .before .before .before .before .before .before .before .before .before .args in
+    let fits : Writable (a .room) (a .n) (now (a .field)) = omega arith in
+    write-md (a .room) (a .n) (now (a .field)) fits (sym (c .before .before .before .before .before .before .before .well-formed .ensures) ∙ not-false _ (c .before .before .before .before .before .before .if5 .left))
+    (sym (c .before .before .before .before .dvb-in-second .ensures) ∙ not-false _ (c .before .before .before .if6 .left)) (sym (c .before .dvb-in-second2 .ensures) ∙ not-true _ (c .if7 .taken))
+
+returns-8 : tie.Need-returns-8
+returns-8 c =
+    let a = c .before .before .before .before .before .before .before .before .before .before .before .before .before .before .before .args in
+    let fits : Writable (a .room) (a .n) (now (a .field)) = omega arith in
+    write-none (a .room) (a .n) (now (a .field)) fits (sym (c .before .before .before .before .before .before .before .well-formed .ensures) ∙ not-false _ (c .before .before .before .before .before .before .if5 .left))
+    (sym (c .before .before .before .before .dvb-in-second .ensures) ∙ not-false _ (c .before .before .before .if6 .left)) (sym (c .before .dvb-in-second2 .ensures) ∙ not-false _ (c .if7 .left))
+
+pub write-refusal-spec : {M : Type 1} → statement M
+write-refusal-spec =
+    tie.close
+    (tie.spec
+    returns
+    returns-2
+    returns-3
+    returns-4
+    well-formed-requires
+    returns-5
+    dvb-in-second-requires
+    returns-6
+    dvb-in-second-requires-2
+    returns-7
+    returns-8)

@@ -1,0 +1,4 @@
+pub mod Mip
+pub mod Long
+pub mod Reader
+pub mod Writer

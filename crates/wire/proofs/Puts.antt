@@ -1,0 +1,17 @@
+-- Pieces that are put into a list one behind the other.
+-- Assumes nothing.
+use mathlib.Core.Path.{_≡_, sym, ap, ap₂, _∙_}
+use mathlib.Core.List.{List, _++_}
+use Prim.Native.Nat.{ℕ, _+_}
+use lib.ListN.{length, take, drop}
+use lib.Seq.{take-at, drop-append-add, drop-drop}
+
+-- p stands at the front of d, up to `at`; x is put right behind it
+pub put-behind : (p x d : List ℕ) (at : ℕ) → length p ≡ at
+    → take at (p ++ drop at d) ++ x ++ drop (at + length x) (p ++ drop at d) ≡ p ++ x ++ drop (at + length x) d
+put-behind p x d at e =
+    let rest : drop (at + length x) (p ++ drop at d) ≡ drop (at + length x) d =
+    ap (λ (n : ℕ). drop (n + length x) (p ++ drop at d)) (sym e)
+    ∙ drop-append-add p (drop at d) (length x)
+    ∙ drop-drop (length x) at d in
+    ap₂ (λ (a b : List ℕ). a ++ x ++ b) (take-at p (drop at d) at e) rest
