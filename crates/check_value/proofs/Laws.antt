@@ -9,7 +9,7 @@ use native.Mathlib.Omega.{arith}
 use lib.ListN.{length, getD, set}
 use lib.Pow.{pow-pos, pow-lt, shr-shr}
 use lib.Bits.{bitXor, xor-lt, xor-self, xor-zero-r}
-use Rattle.check_value.specs.Register.{bitsIn, registerFrom, register, bytesOf}
+use Rattle.check_value.specs.Register.{bitsIn, registerFrom, allOnes, register, bytesOf}
 use Rattle.check_value.specs.Table.{wordOf}
 use Rattle.check_value.proofs.Xor.{xor-cancel, xor-same}
 use Rattle.check_value.proofs.Bits.{bits-fit, bits-linear, bits-injective, own-bits, four-bytes}
@@ -28,14 +28,14 @@ from-fits z (x ∷ xs) h = from-fits (bitsIn 8 z x) xs (bits-fit 8 z x h)
 
 pub register-fits : (xs : List ℕ) → register xs < 2 ^ 32
 unfolding register
-register-fits xs = from-fits 0xFFFF_FFFF xs (omega arith)
+register-fits xs = from-fits allOnes xs (omega arith)
 
 -- four bytes more are one word more
 append-word : (xs : List ℕ) (a b c d : ℕ) → b < 2 ^ 8 → c < 2 ^ 8 → d < 2 ^ 8
     → register (xs ++ a ∷ b ∷ c ∷ d ∷ []) ≡ bitsIn 32 (register xs) (wordOf a b c d)
 unfolding register registerFrom
 append-word xs a b c d hb hc hd =
-    register-append 0xFFFF_FFFF xs (a ∷ b ∷ c ∷ d ∷ []) ∙ four-bytes (register xs) a b c d hb hc hd
+    register-append allOnes xs (a ∷ b ∷ c ∷ d ∷ []) ∙ four-bytes (register xs) a b c d hb hc hd
 
 -- a register's own word empties it
 own-word : (w : ℕ) → w < 2 ^ 32 → bitsIn 32 w w ≡ 0
@@ -108,7 +108,7 @@ from-one-byte (x ∷ xs) z (suc i) b hz h bytes hb e =
 pub one-byte : (xs : List ℕ) (i b : ℕ) → i < length xs → ((j : ℕ) → getD xs j 0 < 2 ^ 8) → b < 2 ^ 8
     → register (set xs i b) ≡ register xs → b ≡ getD xs i 0
 unfolding register
-one-byte xs i b = from-one-byte xs 0xFFFF_FFFF i b (omega arith)
+one-byte xs i b = from-one-byte xs allOnes i b (omega arith)
 
 -- one bit changed gives another register
 pub misses-no-bit : (xs : List ℕ) (i k : ℕ) → i < length xs → k < 8 → ((j : ℕ) → getD xs j 0 < 2 ^ 8)

@@ -5,3 +5,4 @@ pub mod Bits
 pub mod Nibbles
 pub mod Turns
 pub mod Laws
+pub mod Published

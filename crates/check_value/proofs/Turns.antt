@@ -9,7 +9,7 @@ use native.Mathlib.Omega.{arith}
 use lib.ListN.{length, drop, getD, drop-of-length-le}
 use lib.Seq.{drop-cons}
 use lib.Bits.{bitXor, xor-comm}
-use Rattle.check_value.specs.Register.{bitsIn, registerFrom, register}
+use Rattle.check_value.specs.Register.{bitsIn, registerFrom, allOnes, register}
 use Rattle.check_value.specs.Table.{wordAt, leftOf, IsTable}
 use Rattle.check_value.proofs.Bits.{bits-fit, bits-apart, bits-enter, four-bytes}
 
@@ -42,7 +42,7 @@ pub record Reached (s t : List ℕ) (z i : ℕ) : Type 0 where
   pub rest : registerFrom z (drop i s) ≡ register s
   pub table : IsTable t
 
-pub at-start : (s t : List ℕ) → IsTable t → Reached s t 0xFFFF_FFFF 0
+pub at-start : (s t : List ℕ) → IsTable t → Reached s t allOnes 0
 unfolding register
 at-start s t h = record { inside = omega arith; fits = omega arith; rest = refl; table = h }
 

@@ -1,7 +1,6 @@
 -- The CRC decoder model of TS 101 191 annex A: the outputs of the 32 delay elements z(0) to z(31) are the bits of one number,
 -- and bytes are shifted into them one bit at a time.
 -- Assumes nothing.
-use mathlib.Core.Path.{_≡_, refl}
 use mathlib.Core.List.{List, [], _∷_}
 use Prim.Native.Nat.{ℕ, zero, suc, _+_, _*_, _/_, _%_, _^_}
 use lib.Bits.{bitXor}
@@ -9,9 +8,6 @@ use lib.Bits.{bitXor}
 -- the polynomial of annex A but for x^32: the places that have an adder, and z(0)
 abbrev pub generator : ℕ
 generator = 0x04C1_1DB7
-
-pub polynomial : generator ≡ 2 ^ 26 + 2 ^ 23 + 2 ^ 22 + 2 ^ 16 + 2 ^ 12 + 2 ^ 11 + 2 ^ 10 + 2 ^ 8 + 2 ^ 7 + 2 ^ 5 + 2 ^ 4 + 2 ^ 2 + 2 ^ 1 + 2 ^ 0
-polynomial = refl
 
 -- one bit: it is added to the output of z(31), each output moves up one place, and the sum is added at the generator's places
 unfoldable pub bitIn : ℕ → ℕ → ℕ
@@ -22,20 +18,19 @@ unfoldable pub bitsIn : ℕ → ℕ → ℕ → ℕ
 bitsIn zero z x = z
 bitsIn (suc n) z x = bitsIn n (bitIn z (x / 2 ^ n % 2)) x
 
--- bytes, one after the other
+-- bytes, one after the other, into a register
 unfoldable pub registerFrom : ℕ → List ℕ → ℕ
 registerFrom z [] = z
 registerFrom z (x ∷ xs) = registerFrom (bitsIn 8 z x) xs
 
 -- the initial value of each z(i) is 1
+abbrev pub allOnes : ℕ
+allOnes = 0xFFFF_FFFF
+
+-- the register after some bytes
 unfoldable pub register : List ℕ → ℕ
-register xs = registerFrom 0xFFFF_FFFF xs
+register xs = registerFrom allOnes xs
 
 -- the four bytes of a crc_32 field, the most significant first
 abbrev pub bytesOf : ℕ → List ℕ
 bytesOf w = w / 16777216 % 256 ∷ w / 65536 % 256 ∷ w / 256 % 256 ∷ w % 256 ∷ []
-
--- ASCII 123456789 (P11)
-pub published : register (0x31 ∷ 0x32 ∷ 0x33 ∷ 0x34 ∷ 0x35 ∷ 0x36 ∷ 0x37 ∷ 0x38 ∷ 0x39 ∷ []) ≡ 0x0376_E6E7
-unfolding bitIn bitsIn registerFrom register
-published = refl

@@ -81,10 +81,10 @@ packet-put n f d d₁ d₂ d₃ h p₁ p₂ p₃ =
     let e : ℕ = 21 + length f in
     let front : take e d₁ ≡ fieldsOf n f = ap (take e) p₁ ∙ take-at (fieldsOf n f) (drop e d) e (fields-length n f) in
     let q₂ : d₂ ≡ sealed (fieldsOf n f) ++ drop (e + 4) d =
-        p₂
-        ∙ ap (λ (x : List ℕ). take e d₁ ++ bytes32 (register x) ++ drop (e + 4) d₁) front
-        ∙ ap (λ (x : List ℕ). take e x ++ bytes32 (register (fieldsOf n f)) ++ drop (e + 4) x) p₁
-        ∙ put-behind (fieldsOf n f) (bytes32 (register (fieldsOf n f))) d e (fields-length n f) in
+    p₂
+    ∙ ap (λ (x : List ℕ). take e d₁ ++ bytes32 (register x) ++ drop (e + 4) d₁) front
+    ∙ ap (λ (x : List ℕ). take e x ++ bytes32 (register (fieldsOf n f)) ++ drop (e + 4) x) p₁
+    ∙ put-behind (fieldsOf n f) (bytes32 (register (fieldsOf n f))) d e (fields-length n f) in
     let k : 188 - (e + 4) ≡ 163 - length f = omega arith in
     let m : e + 4 + length (stuffing (163 - length f)) ≡ 188 = omega (arith, length-stuffing (163 - length f)) in
     let l : length (sealed (fieldsOf n f)) ≡ e + 4 = sealed-length (fieldsOf n f) ∙ ap (λ (x : ℕ). x + 4) (fields-length n f) in

@@ -1,17 +1,16 @@
 -- Laws of each formula of a release: its cases, its range, and what it is modulo u.
 -- Assumes nothing.
-use mathlib.Core.Path.{_≡_, refl, sym, ap, _∙_}
-use mathlib.Core.Bool.{Bool, true, false, cond, not, _&&_}
-use Prim.Native.Nat.{ℕ, suc, _+_, _*_, _-_, _/_, _%_, _≤_, _<_}
-use native.Mathlib.Nat.{mod-lt, mod-eq-of-lt}
+use mathlib.Core.Path.{_≡_, refl, sym, _∙_}
+use mathlib.Core.Bool.{Bool, true, false, cond, _&&_}
+use Prim.Native.Nat.{ℕ, _+_, _-_, _/_, _%_, _≤_, _<_}
 use native.Mathlib.Omega.{arith}
-use lib.Dec.{ltb, leb}
+use lib.Dec.{ltb}
 use lib.IntN.{ℤ, pos, _+ℤ_, _-ℤ_}
 use lib.Signed.{ltZ, leZ}
-use borrow.Author.Tests.{ltb-true, ltb-false, leb-true, lt-ltb, le-ltb}
-use Rattle.times.specs.Whole.{plus, residue, within}
-use Rattle.times.specs.Release.{wrap, reference, emission, modulation, linkDelay, wait, late, delayFits, delayFitsA110}
-use Rattle.times.proofs.Whole.{up, down, Diff, own, natural, sum, difference, less, at-least, plus-is, plus-whole, congruent, multiples, residue-less, residue-is, residue-only}
+use borrow.Author.Tests.{ltb-true, ltb-false, not-true, lt-ltb, le-ltb}
+use Rattle.times.specs.Whole.{plus, within}
+use Rattle.times.specs.Release.{wrap, modulation, linkDelay, wait, late, delayFits, delayFitsA110}
+use Rattle.times.proofs.Whole.{up, down, Diff, own, natural, sum, difference, same-test, less, not-less, plus-is, plus-whole, congruent, multiples, residue-less, residue-is, residue-only}
 
 -- what holds of both cases holds of the choice
 either : (a b x y : ℕ) (P : ℕ → Type 0) → (a < b → P x) → (b ≤ a → P y) → P (cond (ltb a b) x y)
@@ -106,12 +105,13 @@ module _ (u md : ℕ) (od : ℤ) (fits : delayFits u md od ≡ true) where
 
   -- MD + OD is not negative, and below u
   pub delay-least : down od ≤ md + up od
-  delay-least = omega (arith, leb-true (0 + (0 + down od)) (md + up od) (sym (at-least (delay md od) 0) ∙ tests .0))
+  delay-least =
+      let t = not-true (ltZ (pos md +ℤ od) (pos 0)) (sym (not-less (pos md +ℤ od) 0) ∙ tests .0) in
+      omega (arith, ltb-false (md + up od) (0 + (0 + down od)) (sym (less (delay md od) 0) ∙ t))
 
   pub delay-less : plus md od < u
   delay-less =
-      let h = ltb-true (md + up od) (u + (0 + down od)) (sym (less (delay md od) u) ∙ tests .1) in
-      omega (arith, plus-is md od, delay-least)
+      omega (arith, ltb-true (md + up od) (u + (0 + down od)) (sym (less (delay md od) u) ∙ tests .1), plus-is md od, delay-least)
 
   pub delay-whole : pos (plus md od) ≡ pos md +ℤ od
   delay-whole = plus-whole md od delay-least
@@ -124,13 +124,6 @@ module _ (u md : ℕ) (od : ℤ) (fits : delayFits u md od ≡ true) where
   sum-whole sts = plus-whole (sts + md) od (omega (arith, delay-least))
 
 -- ---- the wait
-same-test : (a b c d : ℕ) → a + d ≡ c + b → ltb a b ≡ ltb c d
-same-test a b c d e = go (ltb c d) refl
-  where
-    go : (t : Bool) → ltb c d ≡ t → ltb a b ≡ t
-    go true f = lt-ltb a b (omega (arith, ltb-true c d f))
-    go false f = le-ltb a b (omega (arith, ltb-false c d f))
-
 module _ (md : ℕ) (od : ℤ) (tad link : ℕ) where
   pub wait-is : Diff (wait md od tad link) (md + up od + 0 + 0) (0 + down od + tad + link)
   wait-is = difference (difference (delay md od) (natural tad)) (natural link)

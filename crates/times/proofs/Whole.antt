@@ -8,7 +8,7 @@ use native.Mathlib.Omega.{arith}
 use lib.Dec.{ltb, leb}
 use lib.IntN.{ℤ, pos, negsuc, natAbs, negℤ, subℕ, _+ℤ_, _-ℤ_}
 use lib.Signed.{ltZ, leZ}
-use borrow.Author.Tests.{ltb-true, ltb-false, leb-true, leb-false, lt-ltb, le-ltb, le-leb, lt-leb}
+use borrow.Author.Tests.{ltb-true, ltb-false, lt-ltb, le-ltb, le-leb, lt-leb}
 use Rattle.times.specs.Whole.{plus, residue}
 
 -- the two sides of z: z is up z − down z, and one of them is 0
@@ -57,22 +57,17 @@ pub difference : {x y : ℤ} {a b c d : ℕ} → Diff x a b → Diff y c d → D
 difference p q = sum p (negated q)
 
 -- ---- order and bounds
+pub same-test : (a b c d : ℕ) → a + d ≡ c + b → ltb a b ≡ ltb c d
+same-test a b c d e = go (ltb c d) refl
+  where
+    go : (t : Bool) → ltb c d ≡ t → ltb a b ≡ t
+    go true f = lt-ltb a b (omega (arith, ltb-true c d f))
+    go false f = le-ltb a b (omega (arith, ltb-false c d f))
+
 module _ {a b : ℕ} where
   pub less : {z : ℤ} → Diff z a b → (n : ℕ) → ltZ z (pos n) ≡ ltb a (n + b)
-  less {z = pos k} p n = go (ltb a (n + b)) refl
-    where
-      go : (t : Bool) → ltb a (n + b) ≡ t → ltb k n ≡ t
-      go true e = lt-ltb k n (omega (arith, ltb-true))
-      go false e = le-ltb k n (omega (arith, ltb-false))
+  less {z = pos k} p n = same-test k n a (n + b) (omega arith)
   less {z = negsuc k} p n = sym (lt-ltb a (n + b) (omega arith))
-
-  pub at-least : {z : ℤ} → Diff z a b → (n : ℕ) → leZ (pos n) z ≡ leb (n + b) a
-  at-least {z = pos k} p n = go (leb (n + b) a) refl
-    where
-      go : (t : Bool) → leb (n + b) a ≡ t → leb n k ≡ t
-      go true e = le-leb n k (omega (arith, leb-true))
-      go false e = lt-leb n k (omega (arith, leb-false))
-  at-least {z = negsuc k} p n = sym (lt-leb (n + b) a (omega arith))
 
   pub size : {z : ℤ} → Diff z a b → natAbs z ≤ a + b
   size {z = pos k} p = omega arith

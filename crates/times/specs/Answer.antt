@@ -12,15 +12,6 @@ use Rattle.times.specs.declared.A110Times.{A110Times}
 use Rattle.times.specs.declared.A110Release as A110
 use Rattle.times.specs.declared.A110Release.the-variants as a110
 
--- numbers of either profile
-abbrev pub plainTimes : PlainTimes → Times
-plainTimes t = record { reference = t .reference; emission = t .emission; modulation = t .modulation; wait = t .wait }
-
-abbrev pub plainReply : Plain.PlainRelease → Reply (Reply Times)
-plainReply (plain.Refused n) = refused n
-plainReply plain.Late = given (refused 14)
-plainReply (plain.Released t) = given (given (plainTimes t))
-
 -- profile 0
 abbrev pub dvbTimes : DvbTimes → Times
 dvbTimes t = record { reference = t .reference .0; emission = t .emission .0; modulation = t .modulation .0; wait = t .wait }
@@ -38,3 +29,12 @@ abbrev pub a110Reply : A110.A110Release → Reply (Reply Times)
 a110Reply (a110.Refused n) = refused n
 a110Reply a110.Late = given (refused 14)
 a110Reply (a110.Released t) = given (given (a110Times t))
+
+-- either profile, over plain numbers
+abbrev pub plainTimes : PlainTimes → Times
+plainTimes t = record { reference = t .reference; emission = t .emission; modulation = t .modulation; wait = t .wait }
+
+abbrev pub plainReply : Plain.PlainRelease → Reply (Reply Times)
+plainReply (plain.Refused n) = refused n
+plainReply plain.Late = given (refused 14)
+plainReply (plain.Released t) = given (given (plainTimes t))

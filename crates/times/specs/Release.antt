@@ -85,7 +85,7 @@ module _ (u sts md : ℕ) (od : ℤ) (tad arrival : ℕ) where
   markOf = reply (must (not (late waitOf)) 14 0) timesOf
 
 -- the answer to a release: a broken limit refuses it, else it gives the mark's part
-abbrev pub releaseOf : (u : ℕ) (fits : Bool) (sts md : ℕ) (od : ℤ) (tad arrival : ℕ) → Reply (Reply Times)
+unfoldable pub releaseOf : (u : ℕ) (fits : Bool) (sts md : ℕ) (od : ℤ) (tad arrival : ℕ) → Reply (Reply Times)
 releaseOf u fits sts md od tad arrival = reply (limits u fits sts md tad arrival) (markOf u sts md od tad arrival)
 
 -- profile 0, in 100 ns steps

@@ -2,20 +2,20 @@
 // The work is done once, for a second of u units; the public calls are its two profiles, each in its own unit.
 ghost use mathlib.Core.Path.{_≡_};
 ghost use mathlib.Core.Bool.{true};
-ghost use Prim.Native.Nat.{_+_, _≤_, _<_, _^_};
+ghost use Prim.Native.Nat.{_+_, _<_, _^_};
 ghost use lib.IntN.{pos, _+ℤ_};
 ghost use Rattle.wire.specs.Standards.{dvbSecond, a110Second};
-ghost use Rattle.times.specs.Whole.{plus, within};
+ghost use Rattle.times.specs.Whole.{within};
 ghost use Rattle.times.specs.Release.{wrap, reference, emission, modulation, linkDelay, wait, inSecond, delayFits, delayFitsA110, limits, releaseOf, dvbRelease, a110Release};
 ghost use Rattle.times.specs.Answer.{plainReply, dvbReply, a110Reply};
 
-// A time or a delay in steps of 100 ns: profile 0.
+// A time or a delay of profile 0, in steps of 100 ns.
 pub struct Steps(pub u32);
 
-// A time or a delay in transport stream bit periods: profile 1.
+// A time or a delay of profile 1, in transport stream bit periods.
 pub struct Periods(pub u32);
 
-// What a mark is released with, in profile 0.
+// What a mark of profile 0 is released with. The wait is in steps too.
 pub struct DvbTimes {
     pub reference: Steps,
     pub emission: Steps,
@@ -23,14 +23,14 @@ pub struct DvbTimes {
     pub wait: i64,
 }
 
-// The answer to a release in profile 0.
+// The answer to a release in profile 0: a limit's number, late (14), or the times.
 pub enum DvbRelease {
     Refused(u8),
     Late,
     Released(DvbTimes),
 }
 
-// What a mark is released with, in profile 1.
+// What a mark of profile 1 is released with. The wait is in periods too.
 pub struct A110Times {
     pub reference: Periods,
     pub emission: Periods,
@@ -45,7 +45,7 @@ pub enum A110Release {
     Released(A110Times),
 }
 
-// The same over plain numbers, for either profile.
+// The same over plain numbers, in the unit of either profile.
 struct PlainTimes {
     reference: u32,
     emission: u32,
@@ -59,18 +59,19 @@ enum PlainRelease {
     Released(PlainTimes),
 }
 
+// U, the units of a second.
 const DVB_SECOND: u32 = 10_000_000;
 
 const A110_SECOND: u32 = 0x127_E892;
 
-// A time is below a second.
+// A time is at most u − 1.
 fn in_second(u: u32, t: u32) -> bool
     ensures { λ r. ⌜ r ≡ inSecond u t ⌝ }
 {
     t < u
 }
 
-// A signed sum is at least low and below a second.
+// A signed sum is within low to u − 1.
 fn sum_within(low: u32, u: u32, sum: i64) -> bool
     ensures { λ r. ⌜ r ≡ within low u sum ⌝ }
 {
@@ -128,7 +129,7 @@ fn limit(u: u32, fits: bool, sts: u32, md: u32, tad: u32, arrival: u32) -> u8
     13
 }
 
-// A sum that exceeds a second loses it.
+// A sum that exceeds u loses u.
 fn wrapped(u: u32, x: u32) -> u32
     ensures { λ r. ⌜ r ≡ wrap u x ⌝ }
 {
@@ -209,35 +210,35 @@ fn release(u: u32, fits: bool, sts: u32, md: u32, od: i16, tad: u32, arrival: u3
     })
 }
 
-// A tick, STS, MD or TAD of profile 0 is below a second.
+// Whether a tick, STS, MD or TAD of profile 0 is within the second (3, 11, 15).
 pub fn dvb_in_second(t: Steps) -> bool
     ensures { λ r. ⌜ r ≡ inSecond dvbSecond (t .0) ⌝ }
 {
     in_second(DVB_SECOND, t.0)
 }
 
-// The same of profile 1.
+// Whether a tick, STS, MD or TAD of profile 1 is within the second (3, 11, 15).
 pub fn a110_in_second(t: Periods) -> bool
     ensures { λ r. ⌜ r ≡ inSecond a110Second (t .0) ⌝ }
 {
     in_second(A110_SECOND, t.0)
 }
 
-// 13 in profile 0.
+// Whether MD and OD of profile 0 pass 13.
 pub fn dvb_delay_fits(md: Steps, od: i16) -> bool
     ensures { λ r. ⌜ r ≡ delayFits dvbSecond (md .0) od ⌝ }
 {
     delay_fits(DVB_SECOND, md.0, od)
 }
 
-// 13 in profile 1.
+// Whether MD, OD and TAD of profile 1 pass 13.
 pub fn a110_delay_fits(md: Periods, od: i16, tad: Periods) -> bool
     ensures { λ r. ⌜ r ≡ delayFitsA110 a110Second (md .0) od (tad .0) ⌝ }
 {
     total_fits(A110_SECOND, md.0, od, tad.0)
 }
 
-// A release in profile 0: the first number that applies of 15, 3, 11 and 13, late, or the mark's times.
+// A release in profile 0: the first number that applies of 15, 3, 11 and 13; late; or the mark's times.
 pub fn dvb_release(sts: Steps, md: Steps, od: i16, tad: Steps, arrival: Steps) -> DvbRelease
     ensures { λ r. ⌜ dvbReply r ≡ dvbRelease (sts .0) (md .0) od (tad .0) (arrival .0) ⌝ }
 {

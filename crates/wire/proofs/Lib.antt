@@ -1,3 +1,4 @@
 pub mod Tests
 pub mod Negative
 pub mod Puts
+pub mod Numbers

@@ -66,11 +66,23 @@ low-byte-requires-5 c κs = search needs
 
 returns : tie.Need-returns
 unfolding headOf
-returns c = 
-    simp
-    (c .before .before .before .before .before .before .before .before .before .before .before .before .before .second-byte .ensures, c .before .before .before .before .before .before .before .before .before .before .before .before .low-byte .ensures, c .before .before .before .before .before .before .before .before .before .before .before .second-byte2 .ensures ∙ ap byte1 (c .before .before .before .before .before .before .before .before .before .before .before .before .before .before .before .before .before .flags-of .ensures), c .before .before .before .before .before .before .before .before .before .before .low-byte2 .ensures ∙ ap byte0 (c .before .before .before .before .before .before .before .before .before .before .before .before .before .before .before .before .before .flags-of .ensures),
-    c .before .before .before .before .before .before .before .before .before .third-byte .ensures, c .before .before .before .before .before .before .before .before .second-byte3 .ensures, c .before .before .before .before .before .before .before .low-byte3 .ensures, c .before .before .before .before .before .before .third-byte2 .ensures, c .before .before .before .before .before .second-byte4 .ensures, c .before .before .before .before .low-byte4 .ensures,
-    c .before .before .before .fourth-byte .ensures, c .before .before .third-byte3 .ensures, c .before .second-byte5 .ensures, c .low-byte5 .ensures)
+returns c =
+    simp (
+      c .before .before .before .before .before .before .before .before .before .before .before .before .before .second-byte .ensures,
+      c .before .before .before .before .before .before .before .before .before .before .before .before .low-byte .ensures,
+      c .before .before .before .before .before .before .before .before .before .before .before .second-byte2 .ensures ∙ ap byte1 (c .before .before .before .before .before .before .before .before .before .before .before .before .before .before .before .before .before .flags-of .ensures),
+      c .before .before .before .before .before .before .before .before .before .before .low-byte2 .ensures ∙ ap byte0 (c .before .before .before .before .before .before .before .before .before .before .before .before .before .before .before .before .before .flags-of .ensures),
+      c .before .before .before .before .before .before .before .before .before .third-byte .ensures,
+      c .before .before .before .before .before .before .before .before .second-byte3 .ensures,
+      c .before .before .before .before .before .before .before .low-byte3 .ensures,
+      c .before .before .before .before .before .before .third-byte2 .ensures,
+      c .before .before .before .before .before .second-byte4 .ensures,
+      c .before .before .before .before .low-byte4 .ensures,
+      c .before .before .before .fourth-byte .ensures,
+      c .before .before .third-byte3 .ensures,
+      c .before .second-byte5 .ensures,
+      c .low-byte5 .ensures,
+    )
 
 pub head-of-spec : {M : Type 1} → statement M
 head-of-spec =

@@ -24,7 +24,7 @@ same-length : tie.Need-same-length
 same-length c = search needs
 
 returns : tie.Need-returns
-returns c = 
+returns c =
     let a = c .before .before .before .before .before .before .args in
     stuffing-put (now (a .out)) (c .before .before .put .last .0) (a .from) (omega arith) (omega arith) (c .before .before .put .ensures)
 

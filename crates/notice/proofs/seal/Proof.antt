@@ -40,7 +40,7 @@ same-length : tie.Need-same-length
 same-length c = search needs
 
 returns : tie.Need-returns
-returns c = 
+returns c =
     let a = c .before .before .before .before .before .before .before .before .before .before .before .before .args in
     seal-put (now (a .out)) (c .before .before .put .last .0) (a .end) (c .before .before .before .before .before .before .before .before .before .register-of .result) (c .before .before .before .before .before .before .before .before .fourth-byte .result) (c .before .before .before .before .before .before .before .third-byte .result) (c .before .before .before .before .before .before .second-byte .result) (c .before .before .before .before .before .low-byte .result)
     (c .before .before .before .before .before .before .before .before .before .register-of .ensures) (c .before .before .before .before .before .before .before .before .fourth-byte .ensures) (c .before .before .before .before .before .before .before .third-byte .ensures) (c .before .before .before .before .before .before .second-byte .ensures) (c .before .before .before .before .before .low-byte .ensures) (c .before .before .put .ensures)

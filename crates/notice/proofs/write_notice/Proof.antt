@@ -24,7 +24,7 @@ put-fields-requires : tie.Need-put-fields-requires
 put-fields-requires c κs = write-fits _ _ _ (sym (c .before .before .write-refusal .ensures) ∙ c .before .if1 .left)
 
 seal-requires : tie.Need-seal-requires
-seal-requires c κs = 
+seal-requires c κs =
     let a = c .before .before .before .before .before .before .before .before .before .args in
     let fits = write-fits (length (now (a .out))) (a .n) (now (a .field)) (sym (c .before .before .before .before .before .before .write-refusal .ensures) ∙ c .before .before .before .before .before .if1 .left) in
     omega (arith, c .before .before .before .put-fields .kept .0)
@@ -33,7 +33,7 @@ add-put-stuffing : tie.Need-add-put-stuffing
 add-put-stuffing c = search needs
 
 put-stuffing-requires : tie.Need-put-stuffing-requires
-put-stuffing-requires c κs = 
+put-stuffing-requires c κs =
     let a = c .before .before .before .before .before .before .before .before .before .before .before .before .before .args in
     let fits = write-fits (length (now (a .out))) (a .n) (now (a .field)) (sym (c .before .before .before .before .before .before .before .before .before .before .write-refusal .ensures) ∙ c .before .before .before .before .before .before .before .before .before .if1 .left) in
     omega (arith, c .before .before .before .before .before .before .before .put-fields .kept .0, c .before .before .before .seal .kept .0)
@@ -43,12 +43,13 @@ same-length c = search needs
 
 returns-2 : tie.Need-returns-2
 unfolding writeOf
-returns-2 c = 
+returns-2 c =
     let a = c .before .before .before .before .before .before .before .before .before .before .before .before .before .before .before .before .args in
-    let none = sym (c .before .before .before .before .before .before .before .before .before .before .before .before .before .write-refusal .ensures) ∙ c .before .before .before .before .before .before .before .before .before .before .before .before .if1 .left in
-    (sym none,
-    packet-put (a .n) (now (a .field)) (now (a .out)) (c .before .before .before .before .before .before .before .before .before .before .put-fields .last .0) (c .before .before .before .before .before .before .seal .last .0) (c .before .before .put-stuffing .last .0) (write-fits (length (now (a .out))) (a .n) (now (a .field)) none .short)
-    (c .before .before .before .before .before .before .before .before .before .before .put-fields .ensures) (c .before .before .before .before .before .before .seal .ensures) (c .before .before .put-stuffing .ensures) ∙ sym (kept-new _ _ _ none))
+    let none = sym (c .before .before .before .before .before .before .before .before .before .before .before .before .before .write-refusal .ensures) ∙ c .before .before .before .before .before .before .before .before .before .before .before .before .if1 .left in (
+      sym none,
+      packet-put (a .n) (now (a .field)) (now (a .out)) (c .before .before .before .before .before .before .before .before .before .before .put-fields .last .0) (c .before .before .before .before .before .before .seal .last .0) (c .before .before .put-stuffing .last .0) (write-fits (length (now (a .out))) (a .n) (now (a .field)) none .short)
+          (c .before .before .before .before .before .before .before .before .before .before .put-fields .ensures) (c .before .before .before .before .before .before .seal .ensures) (c .before .before .put-stuffing .ensures) ∙ sym (kept-new _ _ _ none),
+    )
 
 pub write-notice-spec : {M : Type 1} → statement M
 write-notice-spec =

@@ -22,7 +22,7 @@ answer c =
     let a = s .args in
     let o = toZ-ofZ (s .fits .od) in
     let f = c .before .total-fits .ensures ∙ ap (λ (z : ℤ). delayFitsA110 a110Second (a .md .0) z (a .tad .0)) o in
-    c .release .ensures ∙ same-release a110Second (a .sts .0) (a .md .0) (a .tad .0) (a .arrival .0) f o
+    same-release a110Second (delayFitsA110 a110Second (a .md .0) (a .od) (a .tad .0)) (a .sts .0) (a .md .0) (a .od) (a .tad .0) (a .arrival .0) (c .release .ensures) f o
 
 total-fits-requires : tie.Need-total-fits-requires
 total-fits-requires c κs = search needs

@@ -20,7 +20,7 @@ answer c =
     let a = s .args in
     let o = toZ-ofZ (s .fits .od) in
     let f = c .before .delay-fits .ensures ∙ ap (delayFits dvbSecond (a .md .0)) o in
-    c .release .ensures ∙ same-release dvbSecond (a .sts .0) (a .md .0) (a .tad .0) (a .arrival .0) f o
+    same-release dvbSecond (delayFits dvbSecond (a .md .0) (a .od)) (a .sts .0) (a .md .0) (a .od) (a .tad .0) (a .arrival .0) (c .release .ensures) f o
 
 delay-fits-requires : tie.Need-delay-fits-requires
 delay-fits-requires c κs = search needs

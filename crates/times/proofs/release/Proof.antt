@@ -1,19 +1,18 @@
 -- `times::release` meets its contract: past the limits each formula's own contract holds, and the sign of the wait decides.
 -- Assumes nothing.
 use mathlib.Core.Path.{_≡_, sym, ap, _∙_}
-use mathlib.Core.Bool.{Bool, true}
-use Prim.Native.Nat.{ℕ, _+_, _<_, _≤_}
+use mathlib.Core.Bool.{true}
+use Prim.Native.Nat.{ℕ}
 use native.Mathlib.Omega.{arith}
-use lib.IntN.{ℤ, pos}
-use lib.Signed.{ltZ}
-use mir.Syntax.{w16, w64}
+use lib.IntN.{ℤ}
+use mir.Syntax.{w64}
 use mir.Val.{toZ, ofZ}
 use mir.Facts.{toZ-ofZ}
 use borrow.Author.Needs.{needs}
-use Rattle.wire.specs.Reply.{refused, given}
-use Rattle.wire.proofs.Tests.{reply-refuses}
-use Rattle.times.specs.Release.{emission, modulation, linkDelay, wait, late, delayFits, Times, limits, waitOf, timesOf, markOf, releaseOf}
-use Rattle.times.proofs.Answers.{Kept, kept, mark-late, mark-given, release-kept, emission-most, same-times}
+use Rattle.wire.specs.Reply.{given}
+use Rattle.times.specs.Release.{emission, modulation, wait, late, delayFits, waitOf}
+use Rattle.times.proofs.Answers.{Kept, kept, release-broken, mark-late, mark-given, release-kept, same-times}
+use Rattle.times.proofs.Laws.{emission-most}
 use Rattle.times.proofs.release.Statement.{statement}
 use Rattle.times.proofs.release.Tie as tie
 
@@ -43,11 +42,7 @@ limit-requires : tie.Need-limit-requires
 limit-requires c κs = search needs
 
 returns : tie.Need-returns
-returns c =
-    let a = c .before .before .args in
-    let e = c .before .limit .ensures in
-    ap refused e
-    ∙ sym (reply-refuses (limits (a .u) (a .fits) (a .sts) (a .md) (a .tad) (a .arrival)) (markOf (a .u) (a .sts) (a .md) (a .od) (a .tad) (a .arrival)) (λ z. c .if1 .taken (e ∙ z)))
+returns c = sym (release-broken _ _ _ _ _ _ _ _ (c .before .limit .ensures) (c .if1 .taken))
 
 link-delay-requires : tie.Need-link-delay-requires
 link-delay-requires c κs = let k = within-limits c in (omega arith, k .arrival-less, k .sts-less)
@@ -75,7 +70,7 @@ modulation-time-requires c κs =
     let k = c .before .before .before .before .before in
     let a = k .before .before .args in
     let l = within-limits k in
-    (omega (arith, emits c, emission-most (a .u) (a .sts) (a .md) (a .od) (a .tad) (a .arrival) (fit k) (l .sts-less)), l .tad-less)
+    (omega (arith, emits c, emission-most (a .u) (a .sts) (a .md) (a .od) (fit k) (l .sts-less)), l .tad-less)
 
 returns-3 : tie.Need-returns-3
 returns-3 c =

@@ -1,0 +1,285 @@
+-- Reading and writing undo each other, and no packet with one bit changed is read.
+--     written-read      what an accepted write wrote is read back as exactly its fields
+--     read-written      what is read and written again is the same packet, where its stuffing is 0xFF
+--     one-bit-refused   an accepted packet with one bit of its bytes 0 to 24 + a flipped is refused
+-- Assumes nothing.
+use mathlib.Core.Path.{_≡_, refl, sym, ap, ap₂, _∙_, subst}
+use mathlib.Core.Bool.{Bool, true, false, cond}
+use mathlib.Core.List.{List, [], _∷_, _++_, append-assoc}
+use Prim.Native.Nat.{ℕ, zero, suc, _+_, _-_, _*_, _/_, _%_, _≤_, _<_, _^_}
+use native.Mathlib.Decide.{ℕ-discrete, decLt}
+use native.Mathlib.Omega.{arith}
+use lib.Bits.{bitXor, xor-zero-r}
+use lib.Pow.{pow-pos}
+use lib.Dec.{leb, ltb}
+use lib.ListN.{length, take, drop, getD, set, length-append, length-take, length-drop, length-set, take-append-drop, List·getD-eq-default}
+use lib.Seq.{take-at, take-add, take-append-le, length-take-le, getD-take, getD-set-same, getD-set-other, take-set-lt}
+use borrow.Author.Tests.{leb-true, le-leb, lt-leb, ltb-true}
+use Rattle.wire.specs.Reply.{Reply, refused, given, reply}
+use Rattle.wire.specs.Standards.{dvbSecond}
+use Rattle.wire.specs.BigEndian.{be16, byte0, byte1, bytes32}
+use Rattle.wire.proofs.Tests.{passed}
+use Rattle.wire.proofs.Numbers.{spelled16, spelled24, spelled32}
+use Rattle.check_value.specs.Register.{register}
+use Rattle.check_value.proofs.Laws.{leaves-zero, zero-only, misses-no-bit}
+use Rattle.check_value.proofs.Xor.{xor-cancel}
+use Rattle.times.specs.Release.{inSecond}
+use Rattle.addressing.specs.Entries.{wellFormed}
+use Rattle.notice.specs.Mip.{individualAddressingLength, addressingField, throughCheck, noticeOf}
+use Rattle.notice.specs.Long.{Writable}
+use Rattle.notice.specs.Reader.{readRefusal, readOf, addressingOf}
+use Rattle.notice.specs.Writer.{writeRefusal, flagsOf, headOf, fieldsOf, sealed, stuffing, packetOf, writeOf}
+use Rattle.notice.specs.declared.Notice.{Notice}
+use Rattle.notice.proofs.Parts.{unless-none}
+use Rattle.notice.proofs.Sound.{Sound, accepted-sound, sound-accepted, sound-reads, reads-sound}
+use Rattle.notice.proofs.Writing.{head-length, fields-length, sealed-length, length-stuffing, write-fits, write-none, kept-new}
+use Rattle.notice.proofs.Front.{Bytes, elements, elements-are, head-again}
+
+-- ---- written, then read
+
+-- a notice whose pointer and TPS are numbers of their widths, as those of every notice that code holds are
+pub record Fits (n : Notice) : Type 0 where
+  pub pointer : n .pointer < 65536
+  pub tps : n .tps < 2 ^ 32
+
+-- a time within the second has 24 bits
+time-fits : (t : ℕ) → inSecond dvbSecond t ≡ true → t < 16777216
+time-fits t e = omega (arith, ltb-true t dvbSecond e)
+
+-- what the writer has judged of the addressing field and the times
+judged : (space : ℕ) (n : Notice) (f : List ℕ) → writeRefusal space n f ≡ 0
+    → (wellFormed f ≡ true) × (inSecond dvbSecond (n .sts .0) ≡ true) × (inSecond dvbSecond (n .md .0) ≡ true)
+unfolding writeRefusal
+judged space n f e =
+    let p₁ = passed (leb 188 space) _ _ e in
+    let p₂ = passed (leb (n .continuity) 15) _ _ (p₁ .1) in
+    let p₃ = passed (leb (n .reserved) 32767) _ _ (p₂ .1) in
+    let p₄ = passed (leb (length f) 163) _ _ (p₃ .1) in
+    let p₅ = passed (wellFormed f) _ _ (p₄ .1) in
+    let p₆ = passed (inSecond dvbSecond (n .sts .0)) _ _ (p₅ .1) in
+    let p₇ = passed (inSecond dvbSecond (n .md .0)) _ _ (p₆ .1) in
+    (p₅ .0, p₆ .0, p₇ .0)
+
+-- the periodic flag is the top bit
+flag-back : (t : Bool) (r : ℕ) → r ≤ 32767 → leb 128 (byte1 (cond t (32768 + r) r)) ≡ t
+flag-back true r h = le-leb 128 (byte1 (32768 + r)) (omega arith)
+flag-back false r h = lt-leb 128 (byte1 r) (omega arith)
+
+bits-back : (t : Bool) (r : ℕ) → r ≤ 32767 → be16 (byte1 (cond t (32768 + r) r)) (byte0 (cond t (32768 + r) r)) % 32768 ≡ r
+bits-back true r h = omega arith
+bits-back false r h = omega arith
+
+module _ (n : Notice) (f : List ℕ) (space : ℕ) (w : Writable space n f) where
+  packet-parts : packetOf n f ≡ sealed (fieldsOf n f) ++ stuffing (163 - length f)
+  unfolding packetOf
+  packet-parts = refl
+
+  sealed-end : length (sealed (fieldsOf n f)) ≡ 25 + length f
+  sealed-end = sealed-length (fieldsOf n f) ∙ omega (arith, fields-length n f)
+
+  packet-length : length (packetOf n f) ≡ 188
+  packet-length =
+      ap length packet-parts
+      ∙ length-append (sealed (fieldsOf n f)) (stuffing (163 - length f))
+      ∙ omega (arith, sealed-end, length-stuffing (163 - length f), w .short)
+
+  packet-check : register (take (25 + length f) (packetOf n f)) ≡ 0
+  packet-check =
+      ap (λ (s : List ℕ). register (take (25 + length f) s)) packet-parts
+      ∙ ap register (take-at (sealed (fieldsOf n f)) (stuffing (163 - length f)) (25 + length f) sealed-end)
+      ∙ leaves-zero (fieldsOf n f)
+
+  packet-field : take (length f) (drop 21 (packetOf n f)) ≡ f
+  unfolding packetOf fieldsOf headOf
+  packet-field =
+      ap (take (length f)) (append-assoc f (bytes32 (register (fieldsOf n f))) (stuffing (163 - length f)))
+      ∙ take-at f (bytes32 (register (fieldsOf n f)) ++ stuffing (163 - length f)) (length f) refl
+
+  module _ (e : writeRefusal space n f ≡ 0) (k : Fits n) where
+    packet-notice : noticeOf (packetOf n f) ≡ n
+    unfolding packetOf fieldsOf headOf
+    packet-notice =
+        let j = judged space n f e in
+        let c : (0x10 + n .continuity) % 16 ≡ n .continuity = omega (arith, w .counter) in
+        λ i. record {
+          continuity = c i;
+          pointer = spelled16 (n .pointer) (k .pointer) i;
+          periodic = flag-back (n .periodic) (n .reserved) (w .bits) i;
+          reserved = bits-back (n .periodic) (n .reserved) (w .bits) i;
+          sts = record { 0 = spelled24 (n .sts .0) (time-fits (n .sts .0) (j .1)) i };
+          md = record { 0 = spelled24 (n .md .0) (time-fits (n .md .0) (j .2)) i };
+          tps = spelled32 (n .tps) (k .tps) i;
+        }
+
+    packet-sound : Sound (packetOf n f)
+    unfolding packetOf fieldsOf headOf
+    packet-sound =
+        let j = judged space n f e in
+        record {
+          long = packet-length;
+          sync = refl;
+          whole = refl;
+          pid = refl;
+          start = refl;
+          control = omega (arith, w .counter);
+          scheme = refl;
+          room = w .short;
+          section = refl;
+          check = packet-check;
+          form = ap wellFormed packet-field ∙ j .0;
+          sts = ap (inSecond dvbSecond) (spelled24 (n .sts .0) (time-fits (n .sts .0) (j .1))) ∙ j .1;
+          md = ap (inSecond dvbSecond) (spelled24 (n .md .0) (time-fits (n .md .0) (j .2))) ∙ j .2;
+        }
+
+-- what an accepted write left in the first 188 bytes of the output is read back as exactly its fields
+module _ (out : List ℕ) (n : Notice) (f : List ℕ) (e : writeRefusal (length out) n f ≡ 0) (k : Fits n) where
+  fitting : Writable (length out) n f
+  fitting = write-fits (length out) n f e
+
+  left : take 188 (writeOf out n f) ≡ packetOf n f
+  unfolding writeOf
+  left =
+      ap (take 188) (kept-new _ out (packetOf n f ++ drop 188 out) e)
+      ∙ take-at (packetOf n f) (drop 188 out) 188 (packet-length n f (length out) fitting)
+
+  pub written-read : readOf (take 188 (writeOf out n f)) ≡ given n
+  written-read =
+      ap readOf left
+      ∙ sound-reads (packetOf n f) (packet-sound n f (length out) fitting e k)
+      ∙ ap given (packet-notice n f (length out) fitting e k)
+
+  pub written-addressing : addressingOf (take 188 (writeOf out n f)) ≡ f
+  unfolding addressingOf packetOf fieldsOf headOf
+  written-addressing =
+      ap addressingOf left
+      ∙ unless-none _ (addressingField (packetOf n f)) (sound-accepted (packetOf n f) (packet-sound n f (length out) fitting e k))
+      ∙ packet-field n f (length out) fitting
+
+-- ---- read, then written
+
+module _ (s : List ℕ) (n : Notice) (e : readOf s ≡ given n) (bytes : Bytes s) where
+  sound : Sound s
+  sound = reads-sound s n e .0
+
+  field-length : length (addressingField s) ≡ individualAddressingLength s
+  field-length = length-take-le (individualAddressingLength s) (drop 21 s) (omega (arith, length-drop 21 s, sound .long, sound .room))
+
+  head-front : headOf (noticeOf s) (length (addressingField s)) ≡ take 21 s
+  head-front =
+      ap (headOf (noticeOf s)) field-length
+      ∙ head-again s sound bytes
+      ∙ sym (elements-are 21 0 s (omega (arith, sound .long)))
+
+  fields-front : fieldsOf (noticeOf s) (addressingField s) ≡ take (21 + individualAddressingLength s) s
+  unfolding fieldsOf
+  fields-front =
+      ap (λ (h : List ℕ). h ++ addressingField s) head-front
+      ∙ sym (take-add 21 (individualAddressingLength s) s)
+
+  check-bytes : take 4 (drop (21 + individualAddressingLength s) s) ≡ bytes32 (register (take (21 + individualAddressingLength s) s))
+  check-bytes =
+      let m : ℕ = 21 + individualAddressingLength s in
+      let four : take 4 (drop m s) ≡ elements 4 m s = elements-are 4 m s (omega (arith, sound .long, sound .room)) in
+      let count : 25 + individualAddressingLength s ≡ m + 4 = omega arith in
+      let all : take (25 + individualAddressingLength s) s ≡ take m s ++ elements 4 m s =
+      ap (λ (j : ℕ). take j s) count ∙ take-add m 4 s ∙ ap (λ (l : List ℕ). take m s ++ l) four in
+      four
+      ∙ zero-only (take m s) (getD s m 0) (getD s (suc m) 0) (getD s (suc (suc m)) 0) (getD s (suc (suc (suc m))) 0)
+      (bytes m) (bytes (suc m)) (bytes (suc (suc m))) (bytes (suc (suc (suc m))))
+      (ap register (sym all) ∙ sound .check)
+
+  same-field : addressingOf s ≡ addressingField s
+  unfolding addressingOf
+  same-field = unless-none _ (addressingField s) (sound-accepted s sound)
+
+  -- the notice and the addressing field that were read are accepted by the writer, for any output with room
+  pub rewrite-accepted : (space : ℕ) → 188 ≤ space → writeRefusal space n (addressingOf s) ≡ 0
+  rewrite-accepted space h =
+      subst (λ (m : Notice). writeRefusal space m (addressingOf s) ≡ 0) (reads-sound s n e .1)
+      (ap (writeRefusal space (noticeOf s)) same-field ∙ sym (write-none space (noticeOf s) (addressingField s) room (sound .form) (sound .sts) (sound .md)))
+    where
+      room : Writable space (noticeOf s) (addressingField s)
+      room =
+          record {
+            room = h;
+            counter = omega arith;
+            bits = omega arith;
+            short = omega (arith, field-length, sound .room);
+          }
+
+  -- where the stuffing is 0xFF, the packet that they make is the packet that was read
+  pub read-written : drop (25 + individualAddressingLength s) s ≡ stuffing (163 - individualAddressingLength s) → packetOf n (addressingOf s) ≡ s
+  unfolding packetOf
+  read-written rest =
+      subst (λ (m : Notice). packetOf m (addressingOf s) ≡ s) (reads-sound s n e .1)
+      (ap (packetOf (noticeOf s)) same-field ∙ whole)
+    where
+      whole : packetOf (noticeOf s) (addressingField s) ≡ s
+      whole =
+          let m : ℕ = 21 + individualAddressingLength s in
+          let count : m + 4 ≡ 25 + individualAddressingLength s = omega arith in
+          ap₂ (λ (x : List ℕ) (k : ℕ). sealed x ++ stuffing (163 - k)) fields-front field-length
+          ∙ ap (λ (c : List ℕ). take m s ++ c ++ stuffing (163 - individualAddressingLength s)) (sym check-bytes)
+          ∙ ap (λ (x : List ℕ). x ++ stuffing (163 - individualAddressingLength s)) (sym (take-add m 4 s) ∙ ap (λ (j : ℕ). take j s) count)
+          ∙ ap (λ (x : List ℕ). take (25 + individualAddressingLength s) s ++ x) (sym rest)
+          ∙ take-append-drop (25 + individualAddressingLength s) s
+
+-- ---- one bit
+
+-- a list with bit k of its byte i flipped
+abbrev pub flipped : List ℕ → ℕ → ℕ → List ℕ
+flipped s i k = set s i (bitXor (getD s i 0) (2 ^ k))
+
+-- a number with a bit flipped is another
+flip-differs : (x k : ℕ) → bitXor x (2 ^ k) ≡ x → ⊥
+flip-differs x k e =
+    let none : 2 ^ k ≡ 0 = xor-cancel x (2 ^ k) 0 (e ∙ sym (xor-zero-r x)) in
+    omega (arith, pow-pos k)
+
+take-bytes : (m : ℕ) (s : List ℕ) → Bytes s → Bytes (take m s)
+take-bytes m s bytes j = go (decLt j m)
+  where
+    go : Dec (j < m) → getD (take m s) j 0 < 256
+    go (yes h) = subst (λ (x : ℕ). x < 256) (sym (getD-take m s j 0 h)) (bytes j)
+    go (no h) = subst (λ (x : ℕ). x < 256) (sym (List·getD-eq-default (take m s) 0 {n = j} (omega (arith, length-take m s)))) (omega arith)
+
+module _ (s : List ℕ) (bytes : Bytes s) (k : Sound s) (i b : ℕ) (hi : i ≤ 24 + individualAddressingLength s) (hb : b < 8) where
+  -- a flip in the length of the addressing field is caught by the section's length
+  length-flip : i ≡ 20 → Sound (flipped s i b) → ⊥
+  length-flip z c =
+      let x : ℕ = bitXor (getD s i 0) (2 ^ b) in
+      let new : getD (flipped s i b) 20 0 ≡ bitXor (getD s 20 0) (2 ^ b) =
+      ap (λ (j : ℕ). getD (flipped s j b) 20 0) z ∙ getD-set-same s 20 (bitXor (getD s 20 0) (2 ^ b)) 0 (omega (arith, k .long)) in
+      let old : getD (flipped s i b) 5 0 ≡ getD s 5 0 = getD-set-other s i 5 x 0 (λ q. omega arith) in
+      flip-differs (getD s 20 0) b (omega (arith, new, old, c .section, k .section))
+
+  -- any other flip by the check value
+  other-flip : (i ≡ 20 → ⊥) → Sound (flipped s i b) → ⊥
+  other-flip z c =
+      let m : ℕ = 25 + individualAddressingLength s in
+      let x : ℕ = bitXor (getD s i 0) (2 ^ b) in
+      let same : getD (flipped s i b) 20 0 ≡ getD s 20 0 = getD-set-other s i 20 x 0 (λ q. z (sym q)) in
+      let below : i < m = omega arith in
+      let cut : throughCheck (flipped s i b) ≡ flipped (take m s) i b =
+      ap (λ (j : ℕ). take (25 + j) (flipped s i b)) same
+      ∙ take-set-lt m s i x below
+      ∙ ap (λ (v : ℕ). set (take m s) i (bitXor v (2 ^ b))) (sym (getD-take m s i 0 below)) in
+      misses-no-bit (take m s) i b (omega (arith, length-take-le m s (omega (arith, k .long, k .room)))) hb (take-bytes m s bytes)
+      (ap register (sym cut) ∙ c .check ∙ sym (k .check))
+
+-- an accepted packet with one bit of its bytes 0 to 24 + a flipped is refused
+pub one-bit-refused : (s : List ℕ) (n : Notice) → readOf s ≡ given n → Bytes s → (i b : ℕ) → i ≤ 24 + individualAddressingLength s → b < 8
+    → (r : ℕ) × (readOf (flipped s i b) ≡ refused (suc r))
+unfolding readOf
+one-bit-refused s n e bytes i b hi hb = go (readRefusal (flipped s i b)) refl
+  where
+    never : Sound (flipped s i b) → ⊥
+    never c = pick (ℕ-discrete i 20)
+      where
+        pick : Dec (i ≡ 20) → ⊥
+        pick (yes z) = length-flip s bytes (reads-sound s n e .0) i b hi hb z c
+        pick (no z) = other-flip s bytes (reads-sound s n e .0) i b hi hb z c
+
+    go : (v : ℕ) → readRefusal (flipped s i b) ≡ v → (r : ℕ) × (readOf (flipped s i b) ≡ refused (suc r))
+    go zero z = absurd (never (accepted-sound (flipped s i b) z))
+    go (suc r) z = (r, ap (λ (v : ℕ). reply v (noticeOf (flipped s i b))) z)

@@ -1,0 +1,31 @@
+-- A number is the one that its bytes spell, and bytes are those of the number that they spell.
+-- Assumes nothing.
+use mathlib.Core.Path.{_≡_, refl}
+use Prim.Native.Nat.{ℕ, _+_, _*_, _/_, _%_, _^_, _<_}
+use native.Mathlib.Nat.{div-add-mod'}
+use native.Mathlib.Omega.{arith}
+use lib.Pow.{shr-shr}
+use Rattle.wire.specs.BigEndian.{be16, be24, be32, byte0, byte1, byte2, byte3}
+
+pub spelled16 : (w : ℕ) → w < 65536 → be16 (byte1 w) (byte0 w) ≡ w
+spelled16 w h = omega arith
+
+pub spelled24 : (w : ℕ) → w < 16777216 → be24 (byte2 w) (byte1 w) (byte0 w) ≡ w
+spelled24 w h = omega (arith, shr-shr w 8 8, div-add-mod' w 256, div-add-mod' (w / 256) 256)
+
+pub spelled32 : (w : ℕ) → w < 2 ^ 32 → be32 (byte3 w) (byte2 w) (byte1 w) (byte0 w) ≡ w
+spelled32 w h =
+    let top : w / 16777216 % 256 ≡ w / 16777216 = omega arith in
+    omega (arith, shr-shr w 8 8, shr-shr w 16 8, div-add-mod' w 256, div-add-mod' (w / 256) 256, div-add-mod' (w / 65536) 256)
+
+module _ (a b : ℕ) (ha : a < 256) (hb : b < 256) where
+  pub of16 : (byte1 (be16 a b) ≡ a) × (byte0 (be16 a b) ≡ b)
+  of16 = omega arith
+
+  module _ (c : ℕ) (hc : c < 256) where
+    pub of24 : (byte2 (be24 a b c) ≡ a) × (byte1 (be24 a b c) ≡ b) × (byte0 (be24 a b c) ≡ c)
+    of24 = omega arith
+
+    pub of32 : (d : ℕ) → d < 256
+        → (byte3 (be32 a b c d) ≡ a) × (byte2 (be32 a b c d) ≡ b) × (byte1 (be32 a b c d) ≡ c) × (byte0 (be32 a b c d) ≡ d)
+    of32 d hd = omega arith
