@@ -1,0 +1,40 @@
+-- The answers of the ground's calls as plain numbers: the paper's number, 0 for none, and the values, all 0 where a number refuses.
+-- Assumes nothing.
+use Prim.Native.Nat.{ℕ, zero, suc}
+use mathlib.Core.Bool.{Bool, true, false, cond, not}
+use mathlib.Core.List.{List, []}
+use lib.Dec.{eqb}
+use lib.IntN.{ℤ, pos}
+use lib.ListN.{length}
+use Rattle.wire.specs.Reply.{Reply, refused, given}
+use Rattle.times.specs.Release.{Times}
+use Rattle.addressing.specs.declared.Settings.{Settings}
+use Rattle.notice.specs.declared.Notice.{Notice}
+use Rattle.probe.specs.declared.ProbeReading.{ProbeReading}
+use Rattle.probe.specs.declared.ProbeSettings.{ProbeSettings}
+use Rattle.probe.specs.declared.ProbeTimes.{ProbeTimes}
+use Rattle.probe.specs.declared.ProbeLabel.{ProbeLabel}
+
+-- a notice, with the length of its addressing field
+abbrev pub flatReading : Reply Notice → ℕ → ProbeReading
+flatReading (refused k) a =
+    record { number = k; continuity = 0; pointer = 0; periodic = false; reserved = 0; sts = 0; md = 0; tps = 0; addressing = 0 }
+flatReading (given n) a =
+    record { number = 0; continuity = n .continuity; pointer = n .pointer; periodic = n .periodic; reserved = n .reserved; sts = n .sts .0; md = n .md .0; tps = n .tps; addressing = a }
+
+abbrev pub flatSettings : Reply Settings → ProbeSettings
+flatSettings (refused k) = record { number = k; od = pos 0; frequency = pos 0; power = 0 }
+flatSettings (given t) = record { number = 0; od = t .od; frequency = t .frequency; power = t .power }
+
+abbrev pub noTimes : ℕ → ProbeTimes
+noTimes k = record { number = k; reference = 0; emission = 0; modulation = 0; wait = pos 0 }
+
+abbrev pub flatTimes : Reply (Reply Times) → ProbeTimes
+flatTimes (refused k) = noTimes k
+flatTimes (given (refused k)) = noTimes k
+flatTimes (given (given t)) =
+    record { number = 0; reference = t .reference; emission = t .emission; modulation = t .modulation; wait = t .wait }
+
+abbrev pub flatLabel : Reply ℕ → ProbeLabel
+flatLabel (refused k) = record { number = k; value = 0 }
+flatLabel (given x) = record { number = 0; value = x }
