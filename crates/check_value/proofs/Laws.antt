@@ -21,7 +21,7 @@ register-append z [] ys = refl
 register-append z (x ∷ xs) ys = register-append (bitsIn 8 z x) xs ys
 
 -- a register has 32 bits
-from-fits : (z : ℕ) (xs : List ℕ) → z < 2 ^ 32 → registerFrom z xs < 2 ^ 32
+pub from-fits : (z : ℕ) (xs : List ℕ) → z < 2 ^ 32 → registerFrom z xs < 2 ^ 32
 unfolding registerFrom
 from-fits z [] h = h
 from-fits z (x ∷ xs) h = from-fits (bitsIn 8 z x) xs (bits-fit 8 z x h)
@@ -43,6 +43,7 @@ own-word w h =
     let e : w ≡ w % 2 ^ 32 * 2 ^ 0 = omega arith in
     ap (λ (z : ℕ). bitsIn 32 z w) e ∙ own-bits 32 0 w refl
 
+-- a word is what its four bytes spell
 spelled : (w : ℕ) → w < 2 ^ 32 → wordOf (w / 16777216 % 256) (w / 65536 % 256) (w / 256 % 256) (w % 256) ≡ w
 spelled w h =
     let top : w / 16777216 % 256 ≡ w / 16777216 = omega arith in
@@ -73,7 +74,7 @@ zero-only xs a b c d ha hb hc hd e =
     ∙ ap bytesOf (sym same)
 
 -- bytes take two registers to one only if they are one
-from-injective : (xs : List ℕ) (y z : ℕ) → y < 2 ^ 32 → z < 2 ^ 32 → registerFrom y xs ≡ registerFrom z xs → y ≡ z
+pub from-injective : (xs : List ℕ) (y z : ℕ) → y < 2 ^ 32 → z < 2 ^ 32 → registerFrom y xs ≡ registerFrom z xs → y ≡ z
 unfolding registerFrom
 from-injective [] y z hy hz e = e
 from-injective (x ∷ xs) y z hy hz e =
@@ -94,6 +95,7 @@ byte-injective z a b ha hb e =
     bits-injective 8 (y % 2 ^ 8 * 2 ^ 24) 0 y (omega arith) (omega arith) (own-bits 8 24 y refl ∙ sym none) in
     xor-same a b (omega (arith, mod-eq-of-lt small))
 
+-- another byte in one place, from any register
 from-one-byte : (xs : List ℕ) (z i b : ℕ) → z < 2 ^ 32 → i < length xs → ((j : ℕ) → getD xs j 0 < 2 ^ 8) → b < 2 ^ 8
     → registerFrom z (set xs i b) ≡ registerFrom z xs → b ≡ getD xs i 0
 unfolding registerFrom

@@ -26,7 +26,7 @@ one-more n x m =
     ∙ bits-linear (m * 4) (bitsIn 4 y 0) (bitsIn 4 0 v) 0 0
     ∙ ap (λ (k : ℕ). bitXor k (bitsIn (m * 4) (bitsIn 4 0 v) 0)) zeros
 
--- what the n nibbles of w from nibble p on leave, each with m nibbles behind the word and p in it
+-- the sum of what the n nibbles of w from nibble p on leave, each followed by as many nibbles of zero as stand below it, and m more
 unfoldable pub sumOf : ℕ → ℕ → ℕ → ℕ → ℕ
 sumOf zero p m w = 0
 sumOf (suc n) p m w = bitXor (sumOf n (suc p) m w) (leftOf 4 (w / 2 ^ (p * 4) % 16) ((m + p) * 4))

@@ -2,7 +2,7 @@
 -- Assumes nothing.
 use mathlib.Core.Path.{_≡_, refl, sym, ap, ap₂, _∙_, subst}
 use mathlib.Core.List.{List, [], _∷_}
-use Prim.Native.Nat.{ℕ, zero, suc, _+_, _*_, _/_, _%_, _^_, _<_, _≤_}
+use Prim.Native.Nat.{ℕ, zero, suc, _+_, _*_, _%_, _^_, _<_, _≤_}
 use native.Mathlib.Nat.{add-zero, add-suc, suc-add, zero-add, le-of-suc-le-suc, not-suc-le-zero, div-one, mod-one}
 use native.Mathlib.Numerals.{add-one}
 use native.Mathlib.Omega.{arith}
@@ -10,7 +10,7 @@ use lib.ListN.{length, drop, getD, drop-of-length-le}
 use lib.Seq.{drop-cons}
 use lib.Bits.{bitXor, xor-comm}
 use Rattle.check_value.specs.Register.{bitsIn, registerFrom, allOnes, register}
-use Rattle.check_value.specs.Table.{wordAt, leftOf, IsTable}
+use Rattle.check_value.specs.Table.{wordAt, leftOf, entryOf, IsTable}
 use Rattle.check_value.proofs.Bits.{bits-fit, bits-apart, bits-enter, four-bytes}
 
 -- the values of f at n numbers from i on
@@ -25,15 +25,9 @@ value-at f (suc n) i zero h = ap f (sym (add-zero i))
 value-at f (suc n) i (suc k) h = value-at f n (suc i) k (le-of-suc-le-suc h) ∙ ap f (suc-add i k ∙ sym (add-suc i k))
 
 -- the rule of the whole table by one test, which antt computes
-pub is-table : (t : List ℕ) → t ≡ valuesOf (λ k. leftOf 4 (k % 16) (k / 16 * 4)) 256 0 → IsTable t
+pub is-table : (t : List ℕ) → t ≡ valuesOf entryOf 256 0 → IsTable t
 is-table t e =
-    record {
-      entry =
-          λ k h.
-          ap (λ (l : List ℕ). getD l k 0) e
-          ∙ value-at (λ k. leftOf 4 (k % 16) (k / 16 * 4)) 256 0 k h
-          ∙ ap (λ (j : ℕ). leftOf 4 (j % 16) (j / 16 * 4)) (zero-add k);
-    }
+    record { entry = λ k h. ap (λ (l : List ℕ). getD l k 0) e ∙ value-at entryOf 256 0 k h ∙ ap entryOf (zero-add k) }
 
 -- the register z, once i bytes of s have entered: the rest of s takes it to the register of s
 pub record Reached (s t : List ℕ) (z i : ℕ) : Type 0 where
@@ -63,7 +57,7 @@ next-word s i z bytes h =
     let e₁ : i + 1 + 1 ≡ i + 2 = omega arith in
     let e₂ : i + 2 + 1 ≡ i + 3 = omega arith in
     let e₃ : i + 3 + 1 ≡ i + 4 = omega arith in
-    let next : (k : ℕ) → ℕ → ℕ = λ k y. bitsIn 8 y (getD s k 0) in
+    let next : ℕ → ℕ → ℕ = λ k y. bitsIn 8 y (getD s k 0) in
     let at : ℕ → ℕ → ℕ = λ y k. registerFrom y (drop k s) in
     next-byte s i z (omega arith)
     ∙ next-byte s (i + 1) (next i z) (omega arith)

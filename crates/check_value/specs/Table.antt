@@ -18,6 +18,9 @@ wordAt s i = wordOf (getD s i 0) (getD s (i + 1) 0) (getD s (i + 2) 0) (getD s (
 unfoldable pub leftOf : ℕ → ℕ → ℕ → ℕ
 leftOf n x m = bitsIn m (bitsIn n 0 x) 0
 
--- entry k is what the nibble k % 16 leaves, once k / 16 nibbles of zero have followed it
+-- entry k of the table: what the nibble k % 16 leaves, once k / 16 nibbles of zero have followed it
+abbrev pub entryOf : ℕ → ℕ
+entryOf k = leftOf 4 (k % 16) (k / 16 * 4)
+
 pub record IsTable (t : List ℕ) : Type 0 where
-  pub entry : (k : ℕ) → k < 256 → getD t k 0 ≡ leftOf 4 (k % 16) (k / 16 * 4)
+  pub entry : (k : ℕ) → k < 256 → getD t k 0 ≡ entryOf k

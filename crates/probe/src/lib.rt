@@ -106,7 +106,17 @@ pub extern "C" fn probe_read(p: &[u8]) -> ProbeReading
 }
 
 #[no_mangle]
-pub extern "C" fn probe_write(out: &mut [u8], continuity: u8, pointer: u16, periodic: bool, reserved: u16, sts: u32, md: u32, tps: u32, field: &[u8]) -> u8
+pub extern "C" fn probe_write(
+    out: &mut [u8],
+    continuity: u8,
+    pointer: u16,
+    periodic: bool,
+    reserved: u16,
+    sts: u32,
+    md: u32,
+    tps: u32,
+    field: &[u8],
+) -> u8
     ensures { λ r. ⌜ (r ≡ writeRefusal (length (now (out .entry))) (record { continuity = continuity; pointer = pointer; periodic = periodic; reserved = reserved; sts = record { 0 = sts }; md = record { 0 = md }; tps = tps }) (now (field .entry))) × (now (out .exit) ≡ writeOf (now (out .entry)) (record { continuity = continuity; pointer = pointer; periodic = periodic; reserved = reserved; sts = record { 0 = sts }; md = record { 0 = md }; tps = tps }) (now (field .entry))) ⌝ }
 {
     let n = Notice {
@@ -125,7 +135,13 @@ pub extern "C" fn probe_write(out: &mut [u8], continuity: u8, pointer: u16, peri
 }
 
 #[no_mangle]
-pub extern "C" fn probe_settings(field: &[u8], site: u16, od: i16, frequency: i32, power: u16) -> ProbeSettings
+pub extern "C" fn probe_settings(
+    field: &[u8],
+    site: u16,
+    od: i16,
+    frequency: i32,
+    power: u16,
+) -> ProbeSettings
     ensures { λ r. ⌜ r ≡ flatSettings (settingsOf (now (field .entry)) site (record { od = od; frequency = frequency; power = power })) ⌝ }
 {
     let before = Settings {
@@ -150,7 +166,13 @@ pub extern "C" fn probe_settings(field: &[u8], site: u16, od: i16, frequency: i3
 }
 
 #[no_mangle]
-pub extern "C" fn probe_dvb_release(sts: u32, md: u32, od: i16, tad: u32, arrival: u32) -> ProbeTimes
+pub extern "C" fn probe_dvb_release(
+    sts: u32,
+    md: u32,
+    od: i16,
+    tad: u32,
+    arrival: u32,
+) -> ProbeTimes
     ensures { λ r. ⌜ r ≡ flatTimes (dvbRelease sts md od tad arrival) ⌝ }
 {
     match times::dvb_release(Steps(sts), Steps(md), od, Steps(tad), Steps(arrival)) {
@@ -184,10 +206,22 @@ pub extern "C" fn probe_dvb_release(sts: u32, md: u32, od: i16, tad: u32, arriva
 }
 
 #[no_mangle]
-pub extern "C" fn probe_a110_release(sts: u32, md: u32, od: i16, tad: u32, arrival: u32) -> ProbeTimes
+pub extern "C" fn probe_a110_release(
+    sts: u32,
+    md: u32,
+    od: i16,
+    tad: u32,
+    arrival: u32,
+) -> ProbeTimes
     ensures { λ r. ⌜ r ≡ flatTimes (a110Release sts md od tad arrival) ⌝ }
 {
-    match times::a110_release(Periods(sts), Periods(md), od, Periods(tad), Periods(arrival)) {
+    match times::a110_release(
+        Periods(sts),
+        Periods(md),
+        od,
+        Periods(tad),
+        Periods(arrival),
+    ) {
         A110Release::Released(t) => {
             let reference = t.reference;
             let emission = t.emission;
@@ -243,8 +277,14 @@ pub extern "C" fn probe_label(n: u16, pointer: u16) -> ProbeLabel
     ensures { λ r. ⌜ r ≡ flatLabel (within n pointer (labelOf n pointer)) ⌝ }
 {
     match cadence::label_of(n, pointer) {
-        Answer::Given(x) => ProbeLabel { number: 0, value: x },
-        Answer::Refused(k) => ProbeLabel { number: k, value: 0 },
+        Answer::Given(x) => ProbeLabel {
+            number: 0,
+            value: x,
+        },
+        Answer::Refused(k) => ProbeLabel {
+            number: k,
+            value: 0,
+        },
     }
 }
 

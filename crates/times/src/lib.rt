@@ -133,7 +133,8 @@ fn limit(u: u32, fits: bool, sts: u32, md: u32, tad: u32, arrival: u32) -> u8
 fn wrapped(u: u32, x: u32) -> u32
     ensures { λ r. ⌜ r ≡ wrap u x ⌝ }
 {
-    if u < x {
+    let exceeds = u < x;
+    if exceeds {
         return x - u;
     }
     x

@@ -25,7 +25,7 @@ enum-known-k : tie.Need-enum-known-k
 enum-known-k c = search needs
 
 returns : tie.Need-returns
-returns c = 
+returns c =
     let s = now (c .before .before .before .before .before .before .before .before .args .p) in
     let a = length (now (c .before .before .addressing-part .result)) in
     sym (ap (λ (r : Reading). flatReading (readingReply r) a) (c .before .before .before .before .n .given .1))
@@ -33,7 +33,7 @@ returns c =
     ∙ ap (λ (l : List ℕ). flatReading (readOf s) (length l)) (c .before .before .addressing-part .ensures)
 
 returns-2 : tie.Need-returns-2
-returns-2 c = 
+returns-2 c =
     let a = length (addressingPart (now (c .before .before .before .before .before .args .p))) in
     sym (ap (λ (r : Reading). flatReading (readingReply r) a) (c .before .k .given .1))
     ∙ ap (λ (r : _). flatReading r a) (c .before .before .before .read-notice .ensures)

@@ -1,0 +1,11 @@
+-- The reckoned examples hold: one statement about the definitions, computed over the whole table.
+-- Assumes nothing.
+use mathlib.Core.Path.{_≡_, refl}
+use mathlib.Core.Bool.{true}
+use Rattle.check_value.specs.Register.{bitIn, bitsIn, registerFrom, register}
+use Rattle.times.specs.Release.{wrap, modulation, linkDelay}
+use Rattle.reckoned.specs.Table.{table, holds}
+
+pub reckoned : holds table ≡ true
+unfolding table bitIn bitsIn registerFrom register wrap modulation linkDelay
+reckoned = refl

@@ -1,0 +1,90 @@
+-- The reckoned examples of document 01, each with what the definitions give for it and what the paper says.
+-- Assumes nothing.
+use Prim.Native.Nat.{ℕ}
+use mathlib.Core.Bool.{Bool, true, false, cond, _&&_}
+use mathlib.Core.List.{List, [], _∷_}
+use lib.Dec.{eqb}
+use lib.IntN.{ℤ, pos, negsuc}
+use Rattle.wire.specs.Standards.{dvbSecond, a110Second}
+use Rattle.check_value.specs.Register.{register}
+use Rattle.times.specs.Release.{emission, modulation, late, waitOf}
+use Rattle.cadence.specs.Cadence.{lengthOf}
+use Rattle.cadence.specs.Label.{labelOf}
+use Rattle.cadence.specs.MobileFrame.{mobilePlace}
+use Rattle.cadence.specs.declared.Constellation.the-variants.{Qam64}
+use Rattle.cadence.specs.declared.CodeRate.the-variants.{SevenEighths}
+
+-- an example's number, the values that the definitions give, and those that the paper says
+pub record Example : Type 0 where
+  pub number : ℕ
+  pub given : List ℤ
+  pub said : List ℤ
+
+abbrev pub example : ℕ → List ℤ → List ℤ → Example
+example k g s = record { number = k; given = g; said = s }
+
+-- yes is 1, no is 0
+abbrev pub truth : Bool → ℤ
+truth b = cond b (pos 1) (pos 0)
+
+unfoldable pub table : List Example
+table =
+    -- STS 9,500,000, MD 700,000, OD and TAD 0, arrival 9,900,000: emission and wait
+    example 1
+    (pos (emission dvbSecond 9_500_000 700_000 (pos 0)) ∷ waitOf dvbSecond 9_500_000 700_000 (pos 0) 0 9_900_000 ∷ [])
+    (pos 200_000 ∷ pos 300_000 ∷ [])
+    -- arrival 200,000: wait
+    ∷ example 2
+    (waitOf dvbSecond 9_500_000 700_000 (pos 0) 0 200_000 ∷ [])
+    (pos 0 ∷ [])
+    -- arrival 200,001: late, where 200,000 was not
+    ∷ example 3
+    (truth (late (waitOf dvbSecond 9_500_000 700_000 (pos 0) 0 200_001)) ∷ truth (late (waitOf dvbSecond 9_500_000 700_000 (pos 0) 0 200_000)) ∷ [])
+    (pos 1 ∷ pos 0 ∷ [])
+    -- STS 9,300,000, MD 700,000, OD 0: emission
+    ∷ example 4
+    (pos (emission dvbSecond 9_300_000 700_000 (pos 0)) ∷ [])
+    (pos 10_000_000 ∷ [])
+    -- STS 9,999,000, MD 1,100, OD 0, TAD 200, arrival 9,999,500: modulation and wait
+    ∷ example 5
+    (pos (modulation dvbSecond (emission dvbSecond 9_999_000 1_100 (pos 0)) 200) ∷ waitOf dvbSecond 9_999_000 1_100 (pos 0) 200 9_999_500 ∷ [])
+    (pos 9_999_900 ∷ pos 400 ∷ [])
+    -- profile 1, STS 19,392,657, MD 63,740, OD −32,768, TAD 1,000: emission and modulation
+    ∷ example 6
+    (pos (emission a110Second 19_392_657 63_740 (negsuc 32_767)) ∷ pos (modulation a110Second (emission a110Second 19_392_657 63_740 (negsuc 32_767)) 1_000) ∷ [])
+    (pos 30_971 ∷ pos 29_971 ∷ [])
+    -- n 2016, pointers 0 and 2015: labels
+    ∷ example 7
+    (pos (labelOf 2016 0) ∷ pos (labelOf 2016 2015) ∷ [])
+    (pos 2015 ∷ pos 0 ∷ [])
+    -- 64-QAM 7/8: n
+    ∷ example 9
+    (pos (lengthOf Qam64 SevenEighths) ∷ [])
+    (pos 10_584 ∷ [])
+    -- M/H index 19, p 623: place
+    ∷ example 10
+    (pos (mobilePlace 19 623) ∷ [])
+    (pos 36 ∷ [])
+    -- the check register after ASCII 123456789
+    ∷ example 11
+    (pos (register (0x31 ∷ 0x32 ∷ 0x33 ∷ 0x34 ∷ 0x35 ∷ 0x36 ∷ 0x37 ∷ 0x38 ∷ 0x39 ∷ [])) ∷ [])
+    (pos 0x0376_E6E7 ∷ [])
+    ∷ []
+
+-- two lists of numbers are the same
+abbrev pub sameNumber : ℤ → ℤ → Bool
+sameNumber (pos a) (pos b) = eqb a b
+sameNumber (pos a) (negsuc b) = false
+sameNumber (negsuc a) (pos b) = false
+sameNumber (negsuc a) (negsuc b) = eqb a b
+
+abbrev pub sameNumbers : List ℤ → List ℤ → Bool
+sameNumbers [] [] = true
+sameNumbers [] (y ∷ ys) = false
+sameNumbers (x ∷ xs) [] = false
+sameNumbers (x ∷ xs) (y ∷ ys) = sameNumber x y && sameNumbers xs ys
+
+-- every example of a table gives what it says
+abbrev pub holds : List Example → Bool
+holds [] = true
+holds (e ∷ es) = sameNumbers (e .given) (e .said) && holds es
