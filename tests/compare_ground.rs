@@ -14,7 +14,7 @@ mod vectors_ground;
 
 use faults::FAULTS;
 use ground::{Notice, A110_SECOND, DVB_SECOND};
-use inputs::{Moment, Random, WRONG_FORMS};
+use inputs::{Hex, Moment, Random, WRONG_FORMS};
 use std::collections::BTreeMap;
 use std::fmt::Debug;
 use std::process::ExitCode;
@@ -35,7 +35,11 @@ fn main() -> ExitCode {
         "faults" => find_faults(seed, count),
         _ => compare(seed, count),
     };
-    if passed { ExitCode::SUCCESS } else { ExitCode::FAILURE }
+    if passed {
+        ExitCode::SUCCESS
+    } else {
+        ExitCode::FAILURE
+    }
 }
 
 /// The comparison: prints what was covered, or the first difference.
@@ -43,8 +47,13 @@ fn compare(seed: u64, count: u64) -> bool {
     let mut comparison = Comparison::new(seed);
     match comparison.run(count) {
         Ok(()) => {
-            println!("compared {} calls (seed {seed}): no difference", comparison.calls);
-            comparison.report()
+            let never = comparison.report();
+            println!(
+                "compared {} calls (seed {seed}): no difference, {never} of {} required cases never reached",
+                comparison.calls,
+                comparison.seen.len()
+            );
+            never == 0
         }
         Err(difference) => {
             println!("DIFFERENCE {}", difference.0);
@@ -87,7 +96,7 @@ struct Comparison {
 }
 
 fn hex(bytes: &[u8]) -> String {
-    format!("{} bytes {}", bytes.len(), bytes.iter().map(|b| format!("{b:02X}")).collect::<String>())
+    format!("{:?}", Hex(bytes.to_vec()))
 }
 
 impl Comparison {
@@ -128,7 +137,7 @@ impl Comparison {
         if ours == other {
             return Ok(ours);
         }
-        Err(Difference(format!("seed {} call {}\n  {call}({})\n  ours  {ours:X?}\n  other {other:X?}", self.seed, self.calls, input())))
+        Err(Difference(format!("seed {} call {}\n  {call}({})\n  ours  {ours:?}\n  other {other:?}", self.seed, self.calls, input())))
     }
 
     // ---- The calls
@@ -171,7 +180,7 @@ impl Comparison {
         expected[25 + addressing..].fill(0xFF);
         let mut again = self.random.bytes(188);
         let number = probe::write(&mut again, &notice, &packet[21..21 + addressing]);
-        self.same("write again", || hex(packet), (number, again), (0, expected))?;
+        self.same("write again", || hex(packet), (number, Hex(again)), (0, Hex(expected)))?;
         self.saw("written again", 0);
         Ok(())
     }
@@ -183,10 +192,10 @@ impl Comparison {
         let (mut ours, mut other) = (before.clone(), before.clone());
         let by_ours = probe::write(&mut ours[at..at + length], notice, field);
         let by_other = ground::write(&mut other[at..at + length], notice, field).err().unwrap_or(0);
-        let input = || format!("{notice:X?}, field of {}, buffer {}", hex(field), hex(&before[at..at + length]));
-        let (number, after) = self.same("write", input, (by_ours, ours), (by_other, other))?;
+        let input = || format!("{notice:?}, field of {}, buffer {}", hex(field), hex(&before[at..at + length]));
+        let (number, after) = self.same("write", input, (by_ours, Hex(ours)), (by_other, Hex(other)))?;
         if number != 0 {
-            self.same("write, refused", || hex(&before), &after, &before)?;
+            self.same("write, refused", || hex(&before), after, Hex(before.clone()))?;
         }
         self.number("write", number)?;
         self.saw("buffer of length", length as i64);
@@ -220,7 +229,12 @@ impl Comparison {
         let times = self.same("A/110 release", || format!("{m:?}"), ours, other.into())?;
         self.number("A/110 release", times.number)?;
         self.saw_limits(A110_CASES, A110_SECOND, m, times);
-        let fits = self.same("A/110 delay fits", || format!("{m:?}"), probe::a110_delay_fits(m.md, m.od, m.tad), ground::a110_delay_fits(m.md, m.od, m.tad))?;
+        let fits = self.same(
+            "A/110 delay fits",
+            || format!("{m:?}"),
+            probe::a110_delay_fits(m.md, m.od, m.tad),
+            ground::a110_delay_fits(m.md, m.od, m.tad),
+        )?;
         self.saw("A/110 delay fits", fits);
         Ok(())
     }
@@ -492,23 +506,28 @@ impl Comparison {
 
     // ---- What was covered
 
-    /// Prints what was reached and fails if a case of the fixed list was not.
-    fn report(&self) -> bool {
-        let mut passed = true;
+    /// Prints how often each required case was reached, and counts those that were not.
+    fn report(&self) -> usize {
+        let mut never = 0;
         for (what, cases) in required() {
-            let counts: Vec<(i64, u64)> = cases.iter().map(|&which| (which, self.seen.get(&(what, which)).copied().unwrap_or(0))).collect();
-            let never: Vec<i64> = counts.iter().filter(|(_, count)| *count == 0).map(|(which, _)| *which).collect();
-            if counts.len() > 16 {
-                println!("  {what} {} to {}: each of {}, least {} times", cases[0], cases[cases.len() - 1], cases.len(), counts.iter().map(|c| c.1).min().unwrap_or(0));
+            let counts: Vec<u64> = cases.iter().map(|&which| self.seen[&(what, which)]).collect();
+            if cases.len() > 16 {
+                println!(
+                    "{what} {} to {}: {} cases, each at least {} times",
+                    cases[0],
+                    cases[cases.len() - 1],
+                    cases.len(),
+                    counts.iter().min().unwrap_or(&0)
+                );
             } else {
-                println!("  {what}: {}", counts.iter().map(|(which, count)| format!("{which} ×{count}")).collect::<Vec<_>>().join(", "));
+                println!("{what}: {}", cases.iter().zip(&counts).map(|(which, count)| format!("{which} ×{count}")).collect::<Vec<_>>().join(", "));
             }
-            if !never.is_empty() {
-                println!("  NEVER REACHED: {what} {never:?}");
-                passed = false;
+            for (which, _) in cases.iter().zip(&counts).filter(|(_, &count)| count == 0) {
+                println!("NEVER REACHED: {what} {which}");
+                never += 1;
             }
         }
-        passed
+        never
     }
 }
 

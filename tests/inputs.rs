@@ -1,6 +1,18 @@
 //! Inputs for the comparison: a small deterministic generator, notices, addressing fields, damaged packets and times.
 
 use crate::ground::{self, Notice};
+use std::fmt;
+
+/// Bytes that print in hexadecimal.
+#[derive(Clone, PartialEq)]
+pub struct Hex(pub Vec<u8>);
+
+impl fmt::Debug for Hex {
+    fn fmt(&self, f: &mut fmt::Formatter) -> fmt::Result {
+        write!(f, "{} bytes ", self.0.len())?;
+        self.0.iter().try_for_each(|byte| write!(f, "{byte:02X}"))
+    }
+}
 
 /// splitmix64.
 pub struct Random(pub u64);
@@ -263,6 +275,7 @@ pub fn damaged(r: &mut Random, site: u16) -> Vec<u8> {
     }
     match r.below(12) {
         0..=2 => {}
+        3 if r.one_in(4) => leave(&mut p, 1 << r.below(32)),
         3 => p[r.below(188)] ^= 1 << r.below(8),
         4 => {
             p[r.below(section - 4)] ^= 1 << r.below(8);

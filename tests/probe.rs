@@ -47,7 +47,19 @@ pub struct Label {
 extern "C" {
     fn probe_register(s: *const u8, length: usize) -> u32;
     fn probe_read(p: *const u8, length: usize) -> Reading;
-    fn probe_write(out: *mut u8, out_length: usize, continuity: u8, pointer: u16, periodic: bool, reserved: u16, sts: u32, md: u32, tps: u32, field: *const u8, length: usize) -> u8;
+    fn probe_write(
+        out: *mut u8,
+        out_length: usize,
+        continuity: u8,
+        pointer: u16,
+        periodic: bool,
+        reserved: u16,
+        sts: u32,
+        md: u32,
+        tps: u32,
+        field: *const u8,
+        length: usize,
+    ) -> u8;
     fn probe_settings(field: *const u8, length: usize, site: u16, od: i16, frequency: i32, power: u16) -> Settings;
     fn probe_dvb_release(sts: u32, md: u32, od: i16, tad: u32, arrival: u32) -> Times;
     fn probe_a110_release(sts: u32, md: u32, od: i16, tad: u32, arrival: u32) -> Times;
@@ -69,7 +81,9 @@ pub fn read(p: &[u8]) -> Reading {
 }
 
 pub fn write(out: &mut [u8], n: &ground::Notice, field: &[u8]) -> u8 {
-    unsafe { probe_write(out.as_mut_ptr(), out.len(), n.continuity, n.pointer, n.periodic, n.reserved, n.sts, n.md, n.tps, field.as_ptr(), field.len()) }
+    unsafe {
+        probe_write(out.as_mut_ptr(), out.len(), n.continuity, n.pointer, n.periodic, n.reserved, n.sts, n.md, n.tps, field.as_ptr(), field.len())
+    }
 }
 
 pub fn settings(field: &[u8], site: u16, before: ground::Settings) -> Settings {

@@ -2,6 +2,7 @@
 //! TS 101 191 with check values worked out by annex A's shift register. Both implementations are held to each of them.
 
 use crate::ground::{self, Notice};
+use crate::inputs::Hex;
 use crate::probe::{self, Label, Reading, Settings, Times};
 use std::fmt::Debug;
 
@@ -17,7 +18,7 @@ impl Vectors {
         self.tried += 1;
         if ours != expected || other != expected {
             self.failed += 1;
-            println!("VECTOR {name}: expected {expected:X?}\n  ours  {ours:X?}\n  other {other:X?}");
+            println!("VECTOR {name}: expected {expected:?}\n  ours  {ours:?}\n  other {other:?}");
         }
     }
 
@@ -40,7 +41,7 @@ impl Vectors {
         let mut other = ours.clone();
         let by_ours = probe::write(&mut ours, &notice, field);
         let by_other = ground::write(&mut other, &notice, field).err().unwrap_or(0);
-        self.hold(name, (number, expected.to_vec()), (by_ours, ours), (by_other, other));
+        self.hold(name, (number, Hex(expected.to_vec())), (by_ours, Hex(ours)), (by_other, Hex(other)));
     }
 
     fn unwritten(&mut self, name: &str, length: usize, notice: Notice, field: &[u8], number: u8) {
@@ -83,11 +84,7 @@ fn check_values(v: &mut Vectors) {
     // P11, and the published check value of CRC-32/MPEG-2
     v.register("123456789", b"123456789", 0x0376_E6E7);
     // Sections of MPEG-2 streams end in the same check value (ISO/IEC 13818-1, annex A).
-    v.register(
-        "program association section",
-        &[0x00, 0xB0, 0x0D, 0x00, 0x01, 0xC1, 0x00, 0x00, 0x00, 0x01, 0xF0, 0x00, 0x2A, 0xB1, 0x04, 0xB2],
-        0,
-    );
+    v.register("program association section", &[0x00, 0xB0, 0x0D, 0x00, 0x01, 0xC1, 0x00, 0x00, 0x00, 0x01, 0xF0, 0x00, 0x2A, 0xB1, 0x04, 0xB2], 0);
     v.register(
         "another program association section",
         &[0x00, 0xB0, 0x0D, 0x59, 0x81, 0xEB, 0x00, 0x00, 0x00, 0x01, 0xE0, 0x42, 0x5E, 0x44, 0x05, 0x9A],
@@ -96,7 +93,8 @@ fn check_values(v: &mut Vectors) {
     v.register(
         "program map section",
         &[
-            0x02, 0xB0, 0x17, 0x00, 0x01, 0xC1, 0x00, 0x00, 0xE1, 0x00, 0xF0, 0x00, 0x1B, 0xE1, 0x00, 0xF0, 0x00, 0x0F, 0xE1, 0x01, 0xF0, 0x00, 0x2F, 0x44, 0xB9, 0x9B,
+            0x02, 0xB0, 0x17, 0x00, 0x01, 0xC1, 0x00, 0x00, 0xE1, 0x00, 0xF0, 0x00, 0x1B, 0xE1, 0x00, 0xF0, 0x00, 0x0F, 0xE1, 0x01, 0xF0, 0x00, 0x2F,
+            0x44, 0xB9, 0x9B,
         ],
         0,
     );
@@ -119,8 +117,7 @@ const PLAIN: [u8; 25] = [
     0x40, 0xE5, 0x8B, 0x98, // crc_32
 ];
 
-const PLAIN_NOTICE: Notice =
-    Notice { continuity: 0, pointer: 2015, periodic: false, reserved: 0, sts: 9_500_000, md: 700_000, tps: 0x8116_0000 };
+const PLAIN_NOTICE: Notice = Notice { continuity: 0, pointer: 2015, periodic: false, reserved: 0, sts: 9_500_000, md: 700_000, tps: 0x8116_0000 };
 
 /// One entry with the four functions of tables 7 to 10, and every other field at its highest.
 #[rustfmt::skip]
@@ -172,8 +169,7 @@ fn stuffed(section: &[u8]) -> Vec<u8> {
 }
 
 fn packets(v: &mut Vectors) {
-    let highest =
-        Notice { continuity: 5, pointer: 65_535, periodic: true, reserved: 32_767, sts: 9_999_999, md: 9_999_999, tps: 0xFFFF_FFFF };
+    let highest = Notice { continuity: 5, pointer: 65_535, periodic: true, reserved: 32_767, sts: 9_999_999, md: 9_999_999, tps: 0xFFFF_FFFF };
     let lowest = Notice { continuity: 15, pointer: 0, periodic: true, reserved: 1, sts: 0, md: 0, tps: 0 };
     for (name, section, notice) in [
         ("plain", &PLAIN[..], PLAIN_NOTICE),
@@ -312,7 +308,9 @@ fn cadence(v: &mut Vectors) {
     v.label("pointer 2016, n 2016", 2016, 2016, 12, 0);
     // The fifteen lengths, reckoned by hand; 6,048 comes twice.
     let lengths = [2016, 2688, 3024, 3360, 3528, 4032, 5376, 6048, 6720, 7056, 6048, 8064, 9072, 10_080, 10_584];
-    for (profile, n, admitted) in lengths.map(|n| (0, n, true)).into_iter().chain([(1, 624, true), (0, 624, false), (1, 2016, false), (2, 624, false)]) {
+    for (profile, n, admitted) in
+        lengths.map(|n| (0, n, true)).into_iter().chain([(1, 624, true), (0, 624, false), (1, 2016, false), (2, 624, false)])
+    {
         v.hold("P9 and the other cadences", admitted, probe::admits(profile, n), ground::admits(profile, n));
     }
     v.hold("P10", 36, probe::mobile_place(19, 623), ground::mobile_place(19, 623));

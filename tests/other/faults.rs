@@ -54,7 +54,11 @@ mod seeded {
     /// The papers' rule, or the wrong one while the fault is seeded.
     #[inline]
     pub fn rule<T>(right: T, fault: super::Fault, wrong: T) -> T {
-        if SEEDED.load(Relaxed) == fault as usize { wrong } else { right }
+        if SEEDED.load(Relaxed) == fault as usize {
+            wrong
+        } else {
+            right
+        }
     }
 }
 

@@ -10,7 +10,11 @@ pub const A110_SECOND: u32 = 19_392_658;
 
 /// Refuses with the number when the condition holds.
 fn refuse(number: u8, when: bool) -> Result<(), u8> {
-    if when { Err(number) } else { Ok(()) }
+    if when {
+        Err(number)
+    } else {
+        Ok(())
+    }
 }
 
 // ---- Check value (TS 101 191, annex A)
@@ -89,6 +93,7 @@ pub fn read_with(register: impl Fn(&[u8]) -> u32, packet: &[u8]) -> Result<(Noti
     refuse(7, p[4] != 0)?;
     let a = usize::from(p[20]);
     refuse(8, usize::from(p[5]) != rule(19 + a, SectionLengthModulo256, (19 + a) % 256))?;
+    // a section length of at most 182: the section lies in the packet
     let section = p.get(..25 + a).ok_or(rule(8, SectionLengthModulo256, 9))?;
     let check = register(section);
     refuse(9, rule(check, CheckLosesLastByte, check >> 8) != 0)?;

@@ -9,7 +9,7 @@ use native.Mathlib.Omega.{arith}
 use lib.Pow.{pow-pos, pow-add, shl-lt, shr-lt, field, high, low, split, shr-shr, mod-mod-pow, mod-pow-add}
 use lib.Bits.{bitXor, xor-comm, xor-lt, xor-mod, xor-shr, xor-zero-r, xor-shifted}
 use Rattle.check_value.specs.Register.{generator, bitIn, bitsIn}
-use Rattle.check_value.specs.Table.{wordOf}
+use Rattle.wire.specs.BigEndian.{be32}
 use Rattle.check_value.proofs.Xor.{of-bits, xor-odd, sum-odd, xor-swap, xor-twice, xor-cancel, xor-shl}
 
 -- a register has 32 bits
@@ -115,9 +115,9 @@ bits-join (suc m) n z x y h =
 
 -- four bytes are one word
 pub four-bytes : (z a b c d : ℕ) → b < 2 ^ 8 → c < 2 ^ 8 → d < 2 ^ 8
-    → bitsIn 8 (bitsIn 8 (bitsIn 8 (bitsIn 8 z a) b) c) d ≡ bitsIn 32 z (wordOf a b c d)
+    → bitsIn 8 (bitsIn 8 (bitsIn 8 (bitsIn 8 z a) b) c) d ≡ bitsIn 32 z (be32 a b c d)
 four-bytes z a b c d hb hc hd =
-    let e : ((a * 2 ^ 8 + b) * 2 ^ 8 + c) * 2 ^ 8 + d ≡ wordOf a b c d = omega arith in
+    let e : ((a * 2 ^ 8 + b) * 2 ^ 8 + c) * 2 ^ 8 + d ≡ be32 a b c d = omega arith in
     ap (λ (y : ℕ). bitsIn 8 (bitsIn 8 y c) d) (bits-join 8 8 z a b hb)
     ∙ ap (λ (y : ℕ). bitsIn 8 y d) (bits-join 16 8 z (a * 2 ^ 8 + b) c hc)
     ∙ bits-join 24 8 z ((a * 2 ^ 8 + b) * 2 ^ 8 + c) d hd

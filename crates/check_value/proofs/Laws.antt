@@ -9,8 +9,9 @@ use native.Mathlib.Omega.{arith}
 use lib.ListN.{length, getD, set}
 use lib.Pow.{pow-pos, pow-lt, shr-shr}
 use lib.Bits.{bitXor, xor-lt, xor-self, xor-zero-r}
-use Rattle.check_value.specs.Register.{bitsIn, registerFrom, allOnes, register, bytesOf}
-use Rattle.check_value.specs.Table.{wordOf}
+use Rattle.check_value.specs.Register.{bitsIn, registerFrom, allOnes, register, sealed}
+use Rattle.wire.specs.BigEndian.{be32, byte0, byte1, byte2, byte3, bytes32}
+use Rattle.wire.proofs.Numbers.{spelled32}
 use Rattle.check_value.proofs.Xor.{xor-cancel, xor-same}
 use Rattle.check_value.proofs.Bits.{bits-fit, bits-linear, bits-injective, own-bits, four-bytes}
 
@@ -32,7 +33,7 @@ register-fits xs = from-fits allOnes xs (omega arith)
 
 -- four bytes more are one word more
 append-word : (xs : List ℕ) (a b c d : ℕ) → b < 2 ^ 8 → c < 2 ^ 8 → d < 2 ^ 8
-    → register (xs ++ a ∷ b ∷ c ∷ d ∷ []) ≡ bitsIn 32 (register xs) (wordOf a b c d)
+    → register (xs ++ a ∷ b ∷ c ∷ d ∷ []) ≡ bitsIn 32 (register xs) (be32 a b c d)
 unfolding register registerFrom
 append-word xs a b c d hb hc hd =
     register-append allOnes xs (a ∷ b ∷ c ∷ d ∷ []) ∙ four-bytes (register xs) a b c d hb hc hd
@@ -43,25 +44,19 @@ own-word w h =
     let e : w ≡ w % 2 ^ 32 * 2 ^ 0 = omega arith in
     ap (λ (z : ℕ). bitsIn 32 z w) e ∙ own-bits 32 0 w refl
 
--- a word is what its four bytes spell
-spelled : (w : ℕ) → w < 2 ^ 32 → wordOf (w / 16777216 % 256) (w / 65536 % 256) (w / 256 % 256) (w % 256) ≡ w
-spelled w h =
-    let top : w / 16777216 % 256 ≡ w / 16777216 = omega arith in
-    omega (arith, shr-shr w 8 8, shr-shr w 16 8, div-add-mod' w 256, div-add-mod' (w / 256) 256, div-add-mod' (w / 65536) 256)
-
 -- any bytes followed by the four bytes of their register leave zero
-pub leaves-zero : (xs : List ℕ) → register (xs ++ bytesOf (register xs)) ≡ 0
+pub leaves-zero : (xs : List ℕ) → register (sealed xs) ≡ 0
 leaves-zero xs =
     let w : ℕ = register xs in
-    append-word xs (w / 16777216 % 256) (w / 65536 % 256) (w / 256 % 256) (w % 256) (omega arith) (omega arith) (omega arith)
-    ∙ ap (bitsIn 32 w) (spelled w (register-fits xs))
+    append-word xs (byte3 w) (byte2 w) (byte1 w) (byte0 w) (omega arith) (omega arith) (omega arith)
+    ∙ ap (bitsIn 32 w) (spelled32 w (register-fits xs))
     ∙ own-word w (register-fits xs)
 
 -- and no other four bytes do
 pub zero-only : (xs : List ℕ) (a b c d : ℕ) → a < 2 ^ 8 → b < 2 ^ 8 → c < 2 ^ 8 → d < 2 ^ 8
-    → register (xs ++ a ∷ b ∷ c ∷ d ∷ []) ≡ 0 → a ∷ b ∷ c ∷ d ∷ [] ≡ bytesOf (register xs)
+    → register (xs ++ a ∷ b ∷ c ∷ d ∷ []) ≡ 0 → a ∷ b ∷ c ∷ d ∷ [] ≡ bytes32 (register xs)
 zero-only xs a b c d ha hb hc hd e =
-    let w : ℕ = wordOf a b c d in
+    let w : ℕ = be32 a b c d in
     let small : w < 2 ^ 32 = omega arith in
     let same : register xs ≡ w =
     bits-injective 32 (register xs) w w (register-fits xs) small
@@ -71,7 +66,7 @@ zero-only xs a b c d ha hb hc hd e =
     let ec : c ≡ w / 256 % 256 = omega arith in
     let ed : d ≡ w % 256 = omega arith in
     ap₂ (λ (x : ℕ) (l : List ℕ). x ∷ l) ea (ap₂ (λ (x : ℕ) (l : List ℕ). x ∷ l) eb (ap₂ (λ (x y : ℕ). x ∷ y ∷ []) ec ed))
-    ∙ ap bytesOf (sym same)
+    ∙ ap bytes32 (sym same)
 
 -- bytes take two registers to one only if they are one
 pub from-injective : (xs : List ℕ) (y z : ℕ) → y < 2 ^ 32 → z < 2 ^ 32 → registerFrom y xs ≡ registerFrom z xs → y ≡ z

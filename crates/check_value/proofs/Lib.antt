@@ -5,4 +5,5 @@ pub mod Bits
 pub mod Nibbles
 pub mod Turns
 pub mod Laws
-pub mod Published
+pub mod Generator
+pub mod Sealing

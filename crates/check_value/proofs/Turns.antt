@@ -10,7 +10,8 @@ use lib.ListN.{length, drop, getD, drop-of-length-le}
 use lib.Seq.{drop-cons}
 use lib.Bits.{bitXor, xor-comm}
 use Rattle.check_value.specs.Register.{bitsIn, registerFrom, allOnes, register}
-use Rattle.check_value.specs.Table.{wordAt, leftOf, entryOf, IsTable}
+use Rattle.check_value.specs.Table.{leftOf, entryOf, IsTable}
+use Rattle.wire.specs.BigEndian.{be32At}
 use Rattle.check_value.proofs.Bits.{bits-fit, bits-apart, bits-enter, four-bytes}
 
 -- the values of f at n numbers from i on
@@ -52,7 +53,7 @@ next-byte s i z h =
 
 -- a word more
 next-word : (s : List ℕ) (i z : ℕ) → ((k : ℕ) → getD s k 0 < 2 ^ 8) → i + 4 ≤ length s
-    → registerFrom z (drop i s) ≡ registerFrom (bitsIn 32 z (wordAt s i)) (drop (i + 4) s)
+    → registerFrom z (drop i s) ≡ registerFrom (bitsIn 32 z (be32At s i)) (drop (i + 4) s)
 next-word s i z bytes h =
     let e₁ : i + 1 + 1 ≡ i + 2 = omega arith in
     let e₂ : i + 2 + 1 ≡ i + 3 = omega arith in
@@ -89,19 +90,19 @@ after-byte s t z i y h e r =
     }
 
 pub after-eight : (s t : List ℕ) (z i v w a b : ℕ) → ((k : ℕ) → getD s k 0 < 2 ^ 8) → i + 8 ≤ length s
-    → v ≡ wordAt s i → w ≡ wordAt s (i + 4) → a ≡ leftOf 32 w (0 * 4) → b ≡ leftOf 32 (bitXor z v) (8 * 4)
+    → v ≡ be32At s i → w ≡ be32At s (i + 4) → a ≡ leftOf 32 w (0 * 4) → b ≡ leftOf 32 (bitXor z v) (8 * 4)
     → Reached s t z i → Reached s t (bitXor a b) (i + 8)
 after-eight s t z i v w a b bytes h ev ew ea eb r =
     let four : i + 4 + 4 ≡ i + 8 = omega arith in
-    let y : ℕ = bitsIn 32 (bitsIn 32 z (wordAt s i)) (wordAt s (i + 4)) in
+    let y : ℕ = bitsIn 32 (bitsIn 32 z (be32At s i)) (be32At s (i + 4)) in
     let e : bitXor a b ≡ y =
     ap₂ bitXor ea eb ∙ two-words z v w (r .fits) ∙ ap₂ (λ (m n : ℕ). bitsIn 32 (bitsIn 32 z m) n) ev ew in
     record {
       inside = h;
-      fits = subst (λ (x : ℕ). x < 2 ^ 32) (sym e) (bits-fit 32 (bitsIn 32 z (wordAt s i)) (wordAt s (i + 4)) (bits-fit 32 z (wordAt s i) (r .fits)));
+      fits = subst (λ (x : ℕ). x < 2 ^ 32) (sym e) (bits-fit 32 (bitsIn 32 z (be32At s i)) (be32At s (i + 4)) (bits-fit 32 z (be32At s i) (r .fits)));
       rest =
           ap₂ (λ (x k : ℕ). registerFrom x (drop k s)) e (sym four)
-          ∙ sym (next-word s (i + 4) (bitsIn 32 z (wordAt s i)) bytes (omega arith))
+          ∙ sym (next-word s (i + 4) (bitsIn 32 z (be32At s i)) bytes (omega arith))
           ∙ sym (next-word s i z bytes (omega arith))
           ∙ r .rest;
       table = r .table;

@@ -1,9 +1,10 @@
 -- The CRC decoder model of TS 101 191 annex A: the outputs of the 32 delay elements z(0) to z(31) are the bits of one number,
 -- and bytes are shifted into them one bit at a time.
 -- Assumes nothing.
-use mathlib.Core.List.{List, [], _∷_}
+use mathlib.Core.List.{List, [], _∷_, _++_}
 use Prim.Native.Nat.{ℕ, zero, suc, _+_, _*_, _/_, _%_, _^_}
 use lib.Bits.{bitXor}
+use Rattle.wire.specs.BigEndian.{bytes32}
 
 -- the polynomial of annex A but for x^32: the places that have an adder, and z(0)
 abbrev pub generator : ℕ
@@ -31,6 +32,6 @@ allOnes = 0xFFFF_FFFF
 unfoldable pub register : List ℕ → ℕ
 register xs = registerFrom allOnes xs
 
--- the four bytes of a crc_32 field, the most significant first
-abbrev pub bytesOf : ℕ → List ℕ
-bytesOf w = w / 16777216 % 256 ∷ w / 65536 % 256 ∷ w / 256 % 256 ∷ w % 256 ∷ []
+-- bytes with their check value behind them, the most significant byte first, as the crc_32 field has it
+abbrev pub sealed : List ℕ → List ℕ
+sealed xs = xs ++ bytes32 (register xs)

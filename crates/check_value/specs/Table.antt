@@ -6,14 +6,6 @@ use Prim.Native.Nat.{ℕ, _+_, _*_, _/_, _%_, _<_}
 use lib.ListN.{getD}
 use Rattle.check_value.specs.Register.{bitsIn}
 
--- the word that four bytes spell
-abbrev pub wordOf : ℕ → ℕ → ℕ → ℕ → ℕ
-wordOf a b c d = a * 16777216 + b * 65536 + c * 256 + d
-
--- the word at byte i of a list
-abbrev pub wordAt : List ℕ → ℕ → ℕ
-wordAt s i = wordOf (getD s i 0) (getD s (i + 1) 0) (getD s (i + 2) 0) (getD s (i + 3) 0)
-
 -- what the lowest n bits of x leave of a register of zeros, once m bits of zero have followed them
 unfoldable pub leftOf : ℕ → ℕ → ℕ → ℕ
 leftOf n x m = bitsIn m (bitsIn n 0 x) 0

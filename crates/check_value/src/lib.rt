@@ -1,25 +1,20 @@
 // The check value of TS 101 191 annex A: the CRC decoder's register after some bytes, eight of them a turn.
 ghost use mathlib.Core.Path.{_≡_};
 ghost use Prim.Native.Nat.{_+_, _*_, _/_, _%_, _^_, _<_, _≤_};
-ghost use lib.ListN.{length};
-ghost use Rattle.check_value.specs.Register.{bitsIn, register};
-ghost use Rattle.check_value.specs.Table.{wordOf, wordAt, leftOf, IsTable};
+ghost use mathlib.Core.List.{_++_};
+ghost use lib.ListN.{length, take, drop};
+ghost use Rattle.wire.specs.BigEndian.{be32At};
+ghost use Rattle.check_value.specs.Register.{bitsIn, register, sealed};
+ghost use Rattle.check_value.specs.Table.{leftOf, IsTable};
 
 mod table;
-
-// The word that four bytes spell.
-fn word(a: u8, b: u8, c: u8, d: u8) -> u32
-    ensures { λ r. ⌜ r ≡ wordOf a b c d ⌝ }
-{
-    (a as u32) * 16777216 + (b as u32) * 65536 + (c as u32) * 256 + (d as u32)
-}
 
 // The word that starts at byte i of s.
 fn word_at(s: &[u8], i: usize) -> u32
     requires { ⌜ i + 4 ≤ length (now s) ⌝ }
-    ensures { λ r. ⌜ r ≡ wordAt (now (s .entry)) i ⌝ }
+    ensures { λ r. ⌜ r ≡ be32At (now (s .entry)) i ⌝ }
 {
-    word(s[i], s[i + 1], s[i + 2], s[i + 3])
+    wire::number32(s[i], s[i + 1], s[i + 2], s[i + 3])
 }
 
 // What nibble p of w, counted from the lowest, leaves once m + p nibbles of zero have followed it.
@@ -77,4 +72,20 @@ pub fn register_of(s: &[u8]) -> u32
         i += 1;
     }
     z
+}
+
+// Puts the check value of the first `end` bytes behind them.
+// A helper of the crates above, and no call of the product: its callers see to the room.
+pub fn seal(out: &mut [u8], end: usize)
+    requires { ⌜ end + 4 ≤ length (now out) ⌝ }
+    ensures { λ _. ⌜ now (out .exit) ≡ sealed (take end (now (out .entry))) ++ drop (end + 4) (now (out .entry)) ⌝ }
+{
+    let sum = register_of(&out[..end]);
+    let check = [
+        wire::fourth_byte(sum),
+        wire::third_byte(sum),
+        wire::second_byte(sum),
+        wire::low_byte(sum),
+    ];
+    wire::put(out, end, &check);
 }

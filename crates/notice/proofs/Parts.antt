@@ -8,6 +8,7 @@ use lib.ListN.{length, take, drop, getD}
 use lib.Dec.{leb}
 use borrow.Author.Tests.{le-leb, lt-leb}
 use Rattle.notice.specs.Mip.{addressingField}
+use Rattle.notice.specs.Long.{Framed}
 use Rattle.notice.specs.Reader.{unless, addressingPart}
 
 pub unless-none : (n : ℕ) (xs : List ℕ) → n ≡ 0 → unless n xs ≡ xs
@@ -18,7 +19,7 @@ unless-refused zero xs h = absurd (h refl)
 unless-refused (suc n) xs h = refl
 
 module _ (s : List ℕ) where
-  pub part : (a : ℕ) → a ≡ getD s 20 0 → take (21 + a - 21) (drop 21 s) ≡ addressingField s
+  part : (a : ℕ) → a ≡ getD s 20 0 → take (21 + a - 21) (drop 21 s) ≡ addressingField s
   part a e =
       let k : 21 + a - 21 ≡ getD s 20 0 = omega arith in
       ap (λ (n : ℕ). take n (drop 21 s)) k
@@ -37,3 +38,8 @@ module _ (s : List ℕ) where
     pub part-whole : 21 + a ≤ length s → take (21 + a - 21) (drop 21 s) ≡ addressingPart s
     unfolding addressingPart
     part-whole h = part a e ∙ sym (rw (← e, le-leb (21 + a) (length s) h))
+
+  -- where the lengths are right, the part is the field
+  pub framed-part : Framed s → addressingPart s ≡ addressingField s
+  unfolding addressingPart
+  framed-part f = rw (le-leb (21 + getD s 20 0) (length s) (omega (arith, f .long, f .room)))

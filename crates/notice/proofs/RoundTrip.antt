@@ -20,7 +20,8 @@ use Rattle.wire.specs.Standards.{dvbSecond}
 use Rattle.wire.specs.BigEndian.{be16, byte0, byte1, bytes32}
 use Rattle.wire.proofs.Tests.{passed}
 use Rattle.wire.proofs.Numbers.{spelled16, spelled24, spelled32}
-use Rattle.check_value.specs.Register.{register}
+use Rattle.check_value.specs.Register.{register, sealed}
+use Rattle.check_value.proofs.Sealing.{sealed-length}
 use Rattle.check_value.proofs.Laws.{leaves-zero, zero-only, misses-no-bit}
 use Rattle.check_value.proofs.Xor.{xor-cancel}
 use Rattle.times.specs.Release.{inSecond}
@@ -28,11 +29,11 @@ use Rattle.addressing.specs.Entries.{wellFormed}
 use Rattle.notice.specs.Mip.{individualAddressingLength, addressingField, throughCheck, noticeOf}
 use Rattle.notice.specs.Long.{Writable}
 use Rattle.notice.specs.Reader.{readRefusal, readOf, addressingOf}
-use Rattle.notice.specs.Writer.{writeRefusal, flagsOf, headOf, fieldsOf, sealed, stuffing, packetOf, writeOf}
+use Rattle.notice.specs.Writer.{writeRefusal, flagsOf, headOf, fieldsOf, stuffing, packetOf, writeOf}
 use Rattle.notice.specs.declared.Notice.{Notice}
 use Rattle.notice.proofs.Parts.{unless-none}
 use Rattle.notice.proofs.Sound.{Sound, accepted-sound, sound-accepted, sound-reads, reads-sound}
-use Rattle.notice.proofs.Writing.{head-length, fields-length, sealed-length, length-stuffing, write-fits, write-none, kept-new}
+use Rattle.notice.proofs.Writing.{head-length, fields-length, length-stuffing, write-fits, write-none, kept-new}
 use Rattle.notice.proofs.Front.{Bytes, elements, elements-are, head-again}
 
 -- ---- written, then read

@@ -9,16 +9,17 @@ use lib.ListN.{length, take, drop, replicate, length-append, length-replicate}
 use lib.Seq.{take-at, length-take-le}
 use lib.Dec.{leb}
 use borrow.Author.Tests.{leb-true, le-leb}
-use Rattle.wire.specs.BigEndian.{byte0, byte1, byte2, byte3, bytes32}
+use Rattle.wire.specs.BigEndian.{bytes32}
 use Rattle.wire.specs.Standards.{dvbSecond}
 use Rattle.wire.specs.Reply.{must}
 use Rattle.wire.proofs.Puts.{put-behind}
 use Rattle.wire.proofs.Tests.{passed}
-use Rattle.check_value.specs.Register.{register}
+use Rattle.check_value.specs.Register.{register, sealed}
+use Rattle.check_value.proofs.Sealing.{sealed-length}
 use Rattle.times.specs.Release.{inSecond}
 use Rattle.addressing.specs.Entries.{wellFormed}
 use Rattle.notice.specs.Long.{Writable}
-use Rattle.notice.specs.Writer.{writeRefusal, headOf, fieldsOf, sealed, stuffing, packetOf, keptBy, writeOf}
+use Rattle.notice.specs.Writer.{writeRefusal, headOf, fieldsOf, stuffing, packetOf, keptBy, writeOf}
 use Rattle.notice.specs.declared.Notice.{Notice}
 
 pub head-length : (n : Notice) (a : ℕ) → length (headOf n a) ≡ 21
@@ -29,9 +30,6 @@ pub fields-length : (n : Notice) (f : List ℕ) → length (fieldsOf n f) ≡ 21
 unfolding fieldsOf
 fields-length n f = length-append (headOf n (length f)) f ∙ ap (λ (k : ℕ). k + length f) (head-length n (length f))
 
-pub sealed-length : (s : List ℕ) → length (sealed s) ≡ length s + 4
-sealed-length s = length-append s (bytes32 (register s))
-
 -- the head and the addressing field
 pub fields-put : (n : Notice) (f d d₁ d₂ h : List ℕ) → h ≡ headOf n (length f)
     → d₁ ≡ take 0 d ++ h ++ drop (0 + length h) d
@@ -41,15 +39,6 @@ unfolding headOf fieldsOf
 fields-put n f d d₁ d₂ h e p q =
     let p′ : d₁ ≡ headOf n (length f) ++ drop 21 d = p ∙ ap (λ (x : List ℕ). x ++ drop (0 + length x) d) e in
     q ∙ ap (λ (x : List ℕ). take 21 x ++ f ++ drop (21 + length f) x) p′ ∙ put-behind (headOf n (length f)) f d 21 refl
-
--- the check value
-pub seal-put : (d d′ : List ℕ) (end w b₃ b₂ b₁ b₀ : ℕ) → w ≡ register (take end d)
-    → b₃ ≡ byte3 w → b₂ ≡ byte2 w → b₁ ≡ byte1 w → b₀ ≡ byte0 w
-    → d′ ≡ take end d ++ (b₃ ∷ b₂ ∷ b₁ ∷ b₀ ∷ []) ++ drop (end + 4) d
-    → d′ ≡ sealed (take end d) ++ drop (end + 4) d
-seal-put d d′ end w b₃ b₂ b₁ b₀ e e₃ e₂ e₁ e₀ p =
-    let bytes : (b₃ ∷ b₂ ∷ b₁ ∷ b₀ ∷ []) ≡ bytes32 w = rw (e₃, e₂, e₁, e₀) in
-    p ∙ ap (λ (x : List ℕ). take end d ++ x ++ drop (end + 4) d) (bytes ∙ ap bytes32 e)
 
 -- the stuffing, out of as much as there can be
 pub length-stuffing : (k : ℕ) → length (stuffing k) ≡ k

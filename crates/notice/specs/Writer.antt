@@ -7,8 +7,8 @@ use lib.ListN.{length, drop, replicate}
 use lib.Dec.{leb}
 use Rattle.wire.specs.Reply.{must}
 use Rattle.wire.specs.Standards.{packetLength, syncByte, mipPid, longestAddressing, dvbSecond}
-use Rattle.wire.specs.BigEndian.{byte0, byte1, byte2, byte3, bytes32}
-use Rattle.check_value.specs.Register.{register}
+use Rattle.wire.specs.BigEndian.{byte0, byte1, byte2, byte3}
+use Rattle.check_value.specs.Register.{sealed}
 use Rattle.times.specs.Release.{inSecond}
 use Rattle.addressing.specs.Entries.{wellFormed}
 use Rattle.notice.specs.declared.Notice.{Notice}
@@ -46,10 +46,6 @@ headOf n a =
 -- all bytes before the check value
 unfoldable pub fieldsOf : Notice → List ℕ → List ℕ
 fieldsOf n field = headOf n (length field) ++ field
-
--- bytes with their check value behind them
-abbrev pub sealed : List ℕ → List ℕ
-sealed s = s ++ bytes32 (register s)
 
 -- every stuffing_byte is 0xFF
 abbrev pub stuffing : ℕ → List ℕ

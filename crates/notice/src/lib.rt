@@ -4,9 +4,9 @@ ghost use mathlib.Core.Path.{_≡_};
 ghost use mathlib.Core.List.{_++_};
 ghost use Prim.Native.Nat.{_+_, _-_, _≤_};
 ghost use lib.ListN.{length, take, drop};
-ghost use Rattle.notice.specs.Mip.{addressingField, noticeOf};
+ghost use Rattle.notice.specs.Mip.{noticeOf};
 ghost use Rattle.notice.specs.Reader.{packetRefusal, headRefusal, bodyRefusal, readRefusal, readOf, readingReply, addressingPart, addressingOf};
-ghost use Rattle.notice.specs.Writer.{writeRefusal, flagsOf, headOf, fieldsOf, sealed, stuffing, writeOf, writtenNumber};
+ghost use Rattle.notice.specs.Writer.{writeRefusal, flagsOf, headOf, fieldsOf, stuffing, writeOf, writtenNumber};
 ghost use Rattle.notice.specs.Long.{Long, Framed, Writable};
 
 // What a notice says beside its addressing field.
@@ -99,7 +99,7 @@ fn body_refusal(p: &[u8]) -> u8
     if rest != 0 {
         return 9;
     }
-    if !addressing::well_formed(field(p)) {
+    if !addressing::well_formed(addressing_part(p)) {
         return 10;
     }
     if !times::dvb_in_second(Steps(wire::number24(p[10], p[11], p[12]))) {
@@ -142,15 +142,6 @@ fn notice_in(p: &[u8]) -> Notice
     }
 }
 
-// The addressing field of a packet whose lengths are right.
-fn field(p: &[u8]) -> &[u8]
-    requires { ⌜ Framed (now p) ⌝ }
-    ensures { λ r. ⌜ now r ≡ addressingField (now (p .entry)) ⌝ }
-{
-    let end = 21 + wide(p[20]);
-    &p[21..end]
-}
-
 // Reads a notice from any bytes.
 pub fn read_notice(p: &[u8]) -> Reading
     ensures { λ r. ⌜ readingReply r ≡ readOf (now (p .entry)) ⌝ }
@@ -166,11 +157,11 @@ pub fn read_notice(p: &[u8]) -> Reading
 pub fn addressing_of(p: &[u8]) -> &[u8]
     ensures { λ r. ⌜ now r ≡ addressingOf (now (p .entry)) ⌝ }
 {
-    let number = read_refusal(p);
-    if number != 0 {
+    let first = read_refusal(p);
+    if first != 0 {
         return &p[..0];
     }
-    field(p)
+    addressing_part(p)
 }
 
 // Bytes 21 to 21 + a, as a part of the caller's bytes, judging nothing: what addressing_of gives for a packet already accepted.
@@ -275,21 +266,6 @@ fn put_fields(out: &mut [u8], n: Notice, field: &[u8])
     wire::put(out, 21, field);
 }
 
-// Puts the check value of the first `end` bytes behind them.
-fn seal(out: &mut [u8], end: usize)
-    requires { ⌜ end + 4 ≤ length (now out) ⌝ }
-    ensures { λ _. ⌜ now (out .exit) ≡ sealed (take end (now (out .entry))) ++ drop (end + 4) (now (out .entry)) ⌝ }
-{
-    let sum = check_value::register_of(&out[..end]);
-    let check = [
-        wire::fourth_byte(sum),
-        wire::third_byte(sum),
-        wire::second_byte(sum),
-        wire::low_byte(sum),
-    ];
-    wire::put(out, end, &check);
-}
-
 // Puts stuffing from byte `from` to the packet's end.
 fn put_stuffing(out: &mut [u8], from: usize)
     requires { ⌜ (25 ≤ from) × (from ≤ 188) × (188 ≤ length (now out)) ⌝ }
@@ -304,13 +280,13 @@ fn put_stuffing(out: &mut [u8], from: usize)
 pub fn write_notice(out: &mut [u8], n: Notice, field: &[u8]) -> Written
     ensures { λ r. ⌜ (writtenNumber r ≡ writeRefusal (length (now (out .entry))) n (now (field .entry))) × (now (out .exit) ≡ writeOf (now (out .entry)) n (now (field .entry))) ⌝ }
 {
-    let number = write_refusal(out.len(), n, field);
-    if number != 0 {
-        return Written::Refused(number);
+    let refusal = write_refusal(out.len(), n, field);
+    if refusal != 0 {
+        return Written::Refused(refusal);
     }
     let end = 21 + field.len();
     put_fields(out, n, field);
-    seal(out, end);
+    check_value::seal(out, end);
     put_stuffing(out, end + 4);
     Written::Done
 }

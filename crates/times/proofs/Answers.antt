@@ -44,7 +44,8 @@ module _ (u : ℕ) (fits : Bool) (sts md tad arrival : ℕ) where
 -- ---- the mark's part
 pub same-times :
     {r r′ e e′ m m′ : ℕ} {w w′ : ℤ} → r ≡ r′ → e ≡ e′ → m ≡ m′ → w ≡ w′
-    → _≡_ {A = Times} (record { reference = r; emission = e; modulation = m; wait = w }) (record { reference = r′; emission = e′; modulation = m′; wait = w′ })
+    → _≡_ {A = Times} (record { reference = r; emission = e; modulation = m; wait = w })
+    (record { reference = r′; emission = e′; modulation = m′; wait = w′ })
 same-times p q r w = cc
 
 module _ (u sts md : ℕ) (od : ℤ) (tad arrival : ℕ) where

@@ -10,7 +10,7 @@ use lib.Signed.{ltZ, leZ}
 use borrow.Author.Tests.{ltb-true, ltb-false, not-true, lt-ltb, le-ltb}
 use Rattle.times.specs.Whole.{plus, within}
 use Rattle.times.specs.Release.{wrap, modulation, linkDelay, wait, late, delayFits, delayFitsA110}
-use Rattle.times.proofs.Whole.{up, down, Diff, own, natural, sum, difference, same-test, less, not-less, plus-is, plus-whole, congruent, multiples, residue-less, residue-is, residue-only}
+use Rattle.times.proofs.Whole.{up, down, Diff, own, natural, sum, difference, same-test, less, not-less, plus-is, plus-whole, congruent, differ, residue-less, residue-is, residue-only}
 
 -- what holds of both cases holds of the choice
 either : (a b x y : ℕ) (P : ℕ → Type 0) → (a < b → P x) → (b ≤ a → P y) → P (cond (ltb a b) x y)
@@ -83,7 +83,7 @@ module _ (u arrival sts : ℕ) where
     pub link-residue : (linkDelay u arrival sts + sts) % u ≡ arrival % u
     unfolding linkDelay
     link-residue =
-        let m = multiples u _ _ (residue-is some between) in
+        let m = differ u _ _ (residue-is some between) in
         congruent u _ _ ((arrival + 0) / u) ((linkDelay u arrival sts + (0 + sts)) / u) (omega arith)
 
 -- ---- 13
@@ -111,7 +111,8 @@ module _ (u md : ℕ) (od : ℤ) (fits : delayFits u md od ≡ true) where
 
   pub delay-less : plus md od < u
   delay-less =
-      omega (arith, ltb-true (md + up od) (u + (0 + down od)) (sym (less (delay md od) u) ∙ tests .1), plus-is md od, delay-least)
+      let h = ltb-true (md + up od) (u + (0 + down od)) (sym (less (delay md od) u) ∙ tests .1) in
+      omega (arith, plus-is md od, delay-least)
 
   pub delay-whole : pos (plus md od) ≡ pos md +ℤ od
   delay-whole = plus-whole md od delay-least
@@ -133,4 +134,6 @@ module _ (md : ℕ) (od : ℤ) (tad link : ℕ) where
   late-is =
       let a = md + up od in
       let b = 0 + down od in
-      less wait-is 0 ∙ same-test (a + 0 + 0) (0 + (b + tad + link)) a (tad + link + b) (omega arith) ∙ sym (less (delay md od) (tad + link))
+      less wait-is 0
+      ∙ same-test (a + 0 + 0) (0 + (b + tad + link)) a (tad + link + b) (omega arith)
+      ∙ sym (less (delay md od) (tad + link))

@@ -1,4 +1,5 @@
--- What holds of the times of a release, for a second of u units: their ranges, where the wait ends, when a mark is late, and one reference time for all sites.
+-- What holds of the times of a release, for a second of u units.
+-- Their ranges, where the wait ends, when a mark is late, and one reference time for all sites.
 -- Assumes nothing.
 use mathlib.Core.Path.{_≡_, refl, sym, ap, _∙_, subst}
 use mathlib.Core.Bool.{Bool, true, false}
@@ -11,7 +12,7 @@ use lib.Signed.{ltZ}
 use Rattle.wire.specs.Reply.{given}
 use Rattle.times.specs.Whole.{plus, residue}
 use Rattle.times.specs.Release.{wrap, reference, emission, modulation, linkDelay, wait, late, delayFits, Times, waitOf, timesOf, releaseOf}
-use Rattle.times.proofs.Whole.{natural, sum, plus-is, congruent, multiples, residue-only}
+use Rattle.times.proofs.Whole.{natural, sum, plus-is, congruent, differ, residue-only}
 use Rattle.times.proofs.Formulas.{wrap-most, wrap-residue, modulation-most, modulation-residue, link-residue, delay-least, delay-less, delay-whole, sum-apart, wait-is, late-is}
 use Rattle.times.proofs.Answers.{Passed, released}
 
@@ -43,10 +44,10 @@ module _ (u sts md : ℕ) (od : ℤ) (fits : delayFits u md od ≡ true) where
       let m = modulation u e tad in
       let l = linkDelay u arrival sts in
       let some : 0 < u = omega arith in
-      let c₁ = multiples u (m % u) m (mod-mod m u) in
-      let c₂ = multiples u (m + tad) e (modulation-residue u e tad (omega arith)) in
-      let c₃ = multiples u e x (wrap-residue u x) in
-      let c₄ = multiples u (l + sts) arrival (link-residue u arrival sts some) in
+      let c₁ = differ u (m % u) m (mod-mod m u) in
+      let c₂ = differ u (m + tad) e (modulation-residue u e tad (omega arith)) in
+      let c₃ = differ u e x (wrap-residue u x) in
+      let c₄ = differ u (l + sts) arrival (link-residue u arrival sts some) in
       residue-only some (sum (natural arrival) (wait-is md od tad l)) (m % u) (mod-lt m some)
       (congruent u _ _ (m / u + e / u + x / u + arrival / u) (m % u / u + (m + tad) / u + e / u + (l + sts) / u)
       (omega (arith, plus-is (sts + md) od, delay-least u md od fits)))
@@ -60,26 +61,29 @@ in-time : (z : ℤ) → late z ≡ false → z ≡ pos (natAbs z)
 in-time (pos n) e = refl
 in-time (negsuc n) e = absurd (subst T e tt)
 
-module _ (u : ℕ) (fits : Bool) (sts md : ℕ) (od : ℤ) (tad arrival : ℕ) (t : Times) (answer : releaseOf u fits sts md od tad arrival ≡ given (given t)) where
-  has : Passed u fits sts md od tad arrival t
-  has = released u fits sts md od tad arrival t answer
+module _
+    (u : ℕ) (fits : Bool) (sts md : ℕ) (od : ℤ) (tad arrival : ℕ) (t : Times)
+    (answer : releaseOf u fits sts md od tad arrival ≡ given (given t))
+  where
+    has : Passed u fits sts md od tad arrival t
+    has = released u fits sts md od tad arrival t answer
 
-  -- a site's own values do not enter the reference time
-  pub released-reference : t .reference ≡ reference u sts md
-  released-reference = sym (ap (λ (x : Times). x .reference) (has .times-are))
+    -- a site's own values do not enter the reference time
+    pub released-reference : t .reference ≡ reference u sts md
+    released-reference = sym (ap (λ (x : Times). x .reference) (has .times-are))
 
-  module _ (holds : fits ≡ true → delayFits u md od ≡ true) where
-    pub released-range : InRange u t
-    released-range =
-        let k = has .limits-kept in
-        subst (InRange u) (has .times-are) (times-range u sts md od (holds (k .fit)) tad arrival (k .sts-less) (k .md-less))
+    module _ (holds : fits ≡ true → delayFits u md od ≡ true) where
+      pub released-range : InRange u t
+      released-range =
+          let k = has .limits-kept in
+          subst (InRange u) (has .times-are) (times-range u sts md od (holds (k .fit)) tad arrival (k .sts-less) (k .md-less))
 
-    -- held for its wait from the arrival tick on, the mark ends at its modulation time, modulo u
-    pub released-ends : (arrival + natAbs (t .wait)) % u ≡ t .modulation % u
-    released-ends =
-        subst (λ (x : Times). (arrival + natAbs (x .wait)) % u ≡ x .modulation % u) (has .times-are)
-        (sym (ap (λ (z : ℤ). residue u (pos arrival +ℤ z)) (in-time (waitOf u sts md od tad arrival) (has .in-time)))
-        ∙ wait-ends u sts md od (holds (has .limits-kept .fit)) tad arrival (has .limits-kept .tad-less))
+      -- held for its wait from the arrival tick on, the mark ends at its modulation time, modulo u
+      pub released-ends : (arrival + natAbs (t .wait)) % u ≡ t .modulation % u
+      released-ends =
+          subst (λ (x : Times). (arrival + natAbs (x .wait)) % u ≡ x .modulation % u) (has .times-are)
+          (sym (ap (λ (z : ℤ). residue u (pos arrival +ℤ z)) (in-time (waitOf u sts md od tad arrival) (has .in-time)))
+          ∙ wait-ends u sts md od (holds (has .limits-kept .fit)) tad arrival (has .limits-kept .tad-less))
 
 -- two sites that release a mark of one STS and MD give it one reference time
 pub one-reference :

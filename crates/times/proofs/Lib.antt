@@ -1,5 +1,5 @@
 pub mod Whole
-pub mod Signed64
+pub mod Words
 pub mod Formulas
 pub mod Answers
 pub mod Laws

@@ -1,4 +1,5 @@
--- Whole numbers as differences of naturals: z is a − b. Sums, orders, bounds and residues of whole numbers are read off such a difference, in naturals.
+-- Whole numbers as differences of naturals: z is a − b.
+-- Sums, orders, bounds and residues of whole numbers are read off such a difference, in naturals.
 -- Assumes nothing.
 use mathlib.Core.Path.{_≡_, refl, sym, ap, _∙_}
 use mathlib.Core.Bool.{Bool, true, false, not}
@@ -95,9 +96,9 @@ pub plus-whole : (n : ℕ) (z : ℤ) → down z ≤ n + up z → pos (plus n z) 
 plus-whole n z h = sym (positive (sum (natural n) (own z)) (plus n z) (omega (arith, plus-is n z)))
 
 -- ---- residues
--- a and b differ by multiples of u
-pub multiples : (u a b : ℕ) → a % u ≡ b % u → a + b / u * u ≡ b + a / u * u
-multiples u a b e = omega (arith, div-add-mod' a u, div-add-mod' b u)
+-- numbers of one remainder by u differ by multiples of u
+pub differ : (u a b : ℕ) → a % u ≡ b % u → a + b / u * u ≡ b + a / u * u
+differ u a b e = omega (arith, div-add-mod' a u, div-add-mod' b u)
 
 pub congruent : (u a b p q : ℕ) → a + p * u ≡ b + q * u → a % u ≡ b % u
 congruent u a b p q e = sym (add-mul-mod-self-right a p u) ∙ ap (λ (n : ℕ). n % u) e ∙ add-mul-mod-self-right b q u
@@ -115,7 +116,7 @@ module _ {u : ℕ} (some : 0 < u) where
     -- the residue of a − b, and the only number below u with a's residue when b is added
     pub residue-is : (residue u z + b) % u ≡ a % u
     residue-is =
-        let m = multiples u (residue u z + down z) (up z) (residue-own z) in
+        let m = differ u (residue u z + down z) (up z) (residue-own z) in
         congruent u (residue u z + b) a (up z / u) ((residue u z + down z) / u) (omega arith)
 
     pub residue-only : (r : ℕ) → r < u → (r + b) % u ≡ a % u → residue u z ≡ r
@@ -123,5 +124,5 @@ module _ {u : ℕ} (some : 0 < u) where
       where
         go : residue u z % u ≡ r % u
         go =
-            let m = multiples u (residue u z + b) (r + b) (residue-is ∙ sym e) in
+            let m = differ u (residue u z + b) (r + b) (residue-is ∙ sym e) in
             congruent u (residue u z) r ((r + b) / u) ((residue u z + b) / u) (omega arith)

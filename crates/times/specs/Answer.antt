@@ -1,4 +1,5 @@
--- What the cases of this crate's answers mean in document 01's numbers and values: a refusal's number, 14 for a late mark, or the mark's times.
+-- What the cases of this crate's answers mean in document 01's numbers and values.
+-- A number refuses the call; a call that is given has the mark's part, which is 14 for a late mark or else its times.
 -- Assumes nothing.
 use Rattle.wire.specs.Reply.{Reply, refused, given}
 use Rattle.times.specs.Release.{Times}

@@ -2,10 +2,8 @@
 -- Assumes nothing.
 use borrow.Author.Needs.{needs}
 use mathlib.Core.Path.{_≡_, sym, ap, _∙_}
-use Prim.Native.Nat.{ℕ}
-use denote.Ref.{now}
 use Rattle.notice.specs.Reader.{addressingOf}
-use Rattle.notice.proofs.Parts.{unless-refused, unless-none}
+use Rattle.notice.proofs.Parts.{unless-refused, unless-none, framed-part}
 use Rattle.notice.proofs.Sound.{accepted-framed}
 use Rattle.notice.proofs.addressing_of.Statement.{statement}
 use Rattle.notice.proofs.addressing_of.Tie as tie
@@ -20,14 +18,16 @@ returns : tie.Need-returns
 unfolding addressingOf
 returns c = sym (unless-refused _ _ (λ e. c .before .if1 .taken (c .before .before .read-refusal .ensures ∙ e)))
 
-field-requires : tie.Need-field-requires
-field-requires c κs = accepted-framed _ (sym (c .before .read-refusal .ensures) ∙ c .if1 .left)
+addressing-part-requires : tie.Need-addressing-part-requires
+addressing-part-requires c κs = search needs
 
 returns-2 : tie.Need-returns-2
 unfolding addressingOf
-returns-2 c = c .field .ensures ∙ sym (unless-none _ _ (sym (c .before .before .read-refusal .ensures) ∙ c .before .if1 .left))
+returns-2 c =
+    let none = sym (c .before .before .read-refusal .ensures) ∙ c .before .if1 .left in
+    c .addressing-part .ensures ∙ framed-part _ (accepted-framed _ none) ∙ sym (unless-none _ _ none)
 
 pub addressing-of-spec : {M : Type 1} → statement M
 addressing-of-spec =
     tie.close
-    (tie.spec read-refusal-requires slice-aggregate-result returns field-requires returns-2)
+    (tie.spec read-refusal-requires slice-aggregate-result returns addressing-part-requires returns-2)

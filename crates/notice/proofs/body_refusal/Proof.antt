@@ -10,6 +10,7 @@ use borrow.Author.Tests.{not-true, not-false}
 use Rattle.wire.specs.Standards.{dvbSecond}
 use Rattle.times.specs.Release.{inSecond}
 use Rattle.addressing.specs.Entries.{wellFormed}
+use Rattle.notice.proofs.Parts.{framed-part}
 use Rattle.notice.proofs.Body.{summed, body-9, body-10, body-sts, body-md, body-none}
 use Rattle.notice.proofs.body_refusal.Statement.{statement}
 use Rattle.notice.proofs.body_refusal.Tie as tie
@@ -32,11 +33,12 @@ register-of-requires c κs = search needs
 returns : tie.Need-returns
 returns c =
     let s = now (c .before .before .before .before .before .before .args .p) in
+    let pre = c .before .before .before .before .before .before .pre in
     let sum = summed s (c .before .before .before .wide .result) (c .before .register-of .result) (c .before .register-of .ensures) (c .before .before .before .wide .ensures) in
     body-9 s (λ e. c .if1 .taken (sum ∙ e))
 
-field-requires : tie.Need-field-requires
-field-requires c κs = search needs
+addressing-part-requires : tie.Need-addressing-part-requires
+addressing-part-requires c κs = search needs
 
 well-formed-requires : tie.Need-well-formed-requires
 well-formed-requires c κs = search needs
@@ -44,8 +46,9 @@ well-formed-requires c κs = search needs
 returns-2 : tie.Need-returns-2
 returns-2 c =
     let s = now (c .before .before .before .before .before .before .before .before .before .args .p) in
+    let pre = c .before .before .before .before .before .before .before .before .before .pre in
     let sum = summed s (c .before .before .before .before .before .before .wide .result) (c .before .before .before .before .register-of .result) (c .before .before .before .before .register-of .ensures) (c .before .before .before .before .before .before .wide .ensures) in
-    body-10 s (sym sum ∙ c .before .before .before .if1 .left) (sym (c .before .well-formed .ensures ∙ ap wellFormed (c .before .before .field .ensures)) ∙ not-true _ (c .if2 .taken))
+    body-10 s (sym sum ∙ c .before .before .before .if1 .left) (sym (c .before .well-formed .ensures ∙ ap wellFormed (c .before .before .addressing-part .ensures ∙ framed-part s pre)) ∙ not-true _ (c .if2 .taken))
 
 shared-slice-read-number24 : tie.Need-shared-slice-read-number24
 shared-slice-read-number24 c = search needs
@@ -65,8 +68,9 @@ dvb-in-second-requires c κs = search needs
 returns-3 : tie.Need-returns-3
 returns-3 c =
     let s = now (c .before .before .before .before .before .before .before .before .before .before .before .before .before .before .before .args .p) in
+    let pre = c .before .before .before .before .before .before .before .before .before .before .before .before .before .before .before .pre in
     let sum = summed s (c .before .before .before .before .before .before .before .before .before .before .before .before .wide .result) (c .before .before .before .before .before .before .before .before .before .before .register-of .result) (c .before .before .before .before .before .before .before .before .before .before .register-of .ensures) (c .before .before .before .before .before .before .before .before .before .before .before .before .wide .ensures) in
-    let form = sym (c .before .before .before .before .before .before .before .well-formed .ensures ∙ ap wellFormed (c .before .before .before .before .before .before .before .before .field .ensures)) ∙ not-false _ (c .before .before .before .before .before .before .if2 .left) in
+    let form = sym (c .before .before .before .before .before .before .before .well-formed .ensures ∙ ap wellFormed (c .before .before .before .before .before .before .before .before .addressing-part .ensures ∙ framed-part s pre)) ∙ not-false _ (c .before .before .before .before .before .before .if2 .left) in
     let sts = sym (c .before .dvb-in-second .ensures ∙ ap (inSecond dvbSecond) (c .before .before .number24 .ensures)) ∙ not-true _ (c .if3 .taken) in
     body-sts s (sym sum ∙ c .before .before .before .before .before .before .before .before .before .if1 .left) form sts
 
@@ -88,8 +92,9 @@ dvb-in-second-requires-2 c κs = search needs
 returns-4 : tie.Need-returns-4
 returns-4 c =
     let s = now (c .before .before .before .before .before .before .before .before .before .before .before .before .before .before .before .before .before .before .before .before .before .args .p) in
+    let pre = c .before .before .before .before .before .before .before .before .before .before .before .before .before .before .before .before .before .before .before .before .before .pre in
     let sum = summed s (c .before .before .before .before .before .before .before .before .before .before .before .before .before .before .before .before .before .before .wide .result) (c .before .before .before .before .before .before .before .before .before .before .before .before .before .before .before .before .register-of .result) (c .before .before .before .before .before .before .before .before .before .before .before .before .before .before .before .before .register-of .ensures) (c .before .before .before .before .before .before .before .before .before .before .before .before .before .before .before .before .before .before .wide .ensures) in
-    let form = sym (c .before .before .before .before .before .before .before .before .before .before .before .before .before .well-formed .ensures ∙ ap wellFormed (c .before .before .before .before .before .before .before .before .before .before .before .before .before .before .field .ensures)) ∙ not-false _ (c .before .before .before .before .before .before .before .before .before .before .before .before .if2 .left) in
+    let form = sym (c .before .before .before .before .before .before .before .before .before .before .before .before .before .well-formed .ensures ∙ ap wellFormed (c .before .before .before .before .before .before .before .before .before .before .before .before .before .before .addressing-part .ensures ∙ framed-part s pre)) ∙ not-false _ (c .before .before .before .before .before .before .before .before .before .before .before .before .if2 .left) in
     let sts = sym (c .before .before .before .before .before .before .before .dvb-in-second .ensures ∙ ap (inSecond dvbSecond) (c .before .before .before .before .before .before .before .before .number24 .ensures)) ∙ not-false _ (c .before .before .before .before .before .before .if3 .left) in
     let md = sym (c .before .dvb-in-second2 .ensures ∙ ap (inSecond dvbSecond) (c .before .before .number242 .ensures)) ∙ not-true _ (c .if4 .taken) in
     body-md s (sym sum ∙ c .before .before .before .before .before .before .before .before .before .before .before .before .before .before .before .if1 .left) form sts md
@@ -97,8 +102,9 @@ returns-4 c =
 returns-5 : tie.Need-returns-5
 returns-5 c =
     let s = now (c .before .before .before .before .before .before .before .before .before .before .before .before .before .before .before .before .before .before .before .before .before .args .p) in
+    let pre = c .before .before .before .before .before .before .before .before .before .before .before .before .before .before .before .before .before .before .before .before .before .pre in
     let sum = summed s (c .before .before .before .before .before .before .before .before .before .before .before .before .before .before .before .before .before .before .wide .result) (c .before .before .before .before .before .before .before .before .before .before .before .before .before .before .before .before .register-of .result) (c .before .before .before .before .before .before .before .before .before .before .before .before .before .before .before .before .register-of .ensures) (c .before .before .before .before .before .before .before .before .before .before .before .before .before .before .before .before .before .before .wide .ensures) in
-    let form = sym (c .before .before .before .before .before .before .before .before .before .before .before .before .before .well-formed .ensures ∙ ap wellFormed (c .before .before .before .before .before .before .before .before .before .before .before .before .before .before .field .ensures)) ∙ not-false _ (c .before .before .before .before .before .before .before .before .before .before .before .before .if2 .left) in
+    let form = sym (c .before .before .before .before .before .before .before .before .before .before .before .before .before .well-formed .ensures ∙ ap wellFormed (c .before .before .before .before .before .before .before .before .before .before .before .before .before .before .addressing-part .ensures ∙ framed-part s pre)) ∙ not-false _ (c .before .before .before .before .before .before .before .before .before .before .before .before .if2 .left) in
     let sts = sym (c .before .before .before .before .before .before .before .dvb-in-second .ensures ∙ ap (inSecond dvbSecond) (c .before .before .before .before .before .before .before .before .number24 .ensures)) ∙ not-false _ (c .before .before .before .before .before .before .if3 .left) in
     let md = sym (c .before .dvb-in-second2 .ensures ∙ ap (inSecond dvbSecond) (c .before .before .number242 .ensures)) ∙ not-false _ (c .if4 .left) in
     body-none s (sym sum ∙ c .before .before .before .before .before .before .before .before .before .before .before .before .before .before .before .if1 .left) form sts md
@@ -113,7 +119,7 @@ body-refusal-spec =
     slice-aggregate-register-of
     register-of-requires
     returns
-    field-requires
+    addressing-part-requires
     well-formed-requires
     returns-2
     shared-slice-read-number24

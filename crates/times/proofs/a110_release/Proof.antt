@@ -16,13 +16,16 @@ use Rattle.times.proofs.Answers.{same-times, same-release}
 use Rattle.times.proofs.a110_release.Statement.{statement}
 use Rattle.times.proofs.a110_release.Tie as tie
 
-answer : (c : tie.After-release) → let a = c .before .before .args in plainReply (c .release .result) ≡ a110Release (a .sts .0) (a .md .0) (a .od) (a .tad .0) (a .arrival .0)
+answer :
+    (c : tie.After-release) → let a = c .before .before .args in
+    plainReply (c .release .result) ≡ a110Release (a .sts .0) (a .md .0) (a .od) (a .tad .0) (a .arrival .0)
 answer c =
     let s = c .before .before in
     let a = s .args in
     let o = toZ-ofZ (s .fits .od) in
     let f = c .before .total-fits .ensures ∙ ap (λ (z : ℤ). delayFitsA110 a110Second (a .md .0) z (a .tad .0)) o in
-    same-release a110Second (delayFitsA110 a110Second (a .md .0) (a .od) (a .tad .0)) (a .sts .0) (a .md .0) (a .od) (a .tad .0) (a .arrival .0) (c .release .ensures) f o
+    same-release a110Second (delayFitsA110 a110Second (a .md .0) (a .od) (a .tad .0))
+    (a .sts .0) (a .md .0) (a .od) (a .tad .0) (a .arrival .0) (c .release .ensures) f o
 
 total-fits-requires : tie.Need-total-fits-requires
 total-fits-requires c κs = search needs
@@ -51,7 +54,8 @@ returns-3 : tie.Need-returns-3
 returns-3 c =
     let t = c .before .before .t .given in
     let w : toZ w64 (ofZ w64 (t .0 .0 .wait)) ≡ t .0 .0 .wait = search needs in
-    ap given (ap given (same-times refl refl refl w)) ∙ ap plainReply (sym (t .1)) ∙ answer (c .before .before .before .before)
+    ap given (ap given (same-times refl refl refl w)) ∙ ap plainReply (sym (t .1))
+    ∙ answer (c .before .before .before .before)
 
 pub a110-release-spec : {M : Type 1} → statement M
 a110-release-spec =

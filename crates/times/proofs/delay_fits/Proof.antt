@@ -4,7 +4,7 @@ use mathlib.Core.Path.{ap, _∙_}
 use borrow.Author.Needs.{needs}
 use Rattle.times.specs.Whole.{within}
 use Rattle.times.specs.Release.{delayFits}
-use Rattle.times.proofs.Signed64.{of-delay}
+use Rattle.times.proofs.Words.{delay-holds}
 use Rattle.times.proofs.delay_fits.Statement.{statement}
 use Rattle.times.proofs.delay_fits.Tie as tie
 
@@ -18,7 +18,8 @@ returns : tie.Need-returns
 unfolding delayFits
 returns c =
     let s = c .before .before in
-    c .sum-within .ensures ∙ ap (within 0 (s .args .u)) (of-delay (s .fits .md .fits) (s .fits .od) (c .before .delay .ensures) .is)
+    c .sum-within .ensures
+    ∙ ap (within 0 (s .args .u)) (delay-holds (s .fits .md .fits) (s .fits .od) (c .before .delay .ensures) .is)
 
 pub delay-fits-spec : {M : Type 1} → statement M
 delay-fits-spec = tie.close (tie.spec delay-requires sum-within-requires returns)

@@ -14,13 +14,16 @@ use Rattle.times.proofs.Answers.{same-times, same-release}
 use Rattle.times.proofs.dvb_release.Statement.{statement}
 use Rattle.times.proofs.dvb_release.Tie as tie
 
-answer : (c : tie.After-release) → let a = c .before .before .args in plainReply (c .release .result) ≡ dvbRelease (a .sts .0) (a .md .0) (a .od) (a .tad .0) (a .arrival .0)
+answer :
+    (c : tie.After-release) → let a = c .before .before .args in
+    plainReply (c .release .result) ≡ dvbRelease (a .sts .0) (a .md .0) (a .od) (a .tad .0) (a .arrival .0)
 answer c =
     let s = c .before .before in
     let a = s .args in
     let o = toZ-ofZ (s .fits .od) in
     let f = c .before .delay-fits .ensures ∙ ap (delayFits dvbSecond (a .md .0)) o in
-    same-release dvbSecond (delayFits dvbSecond (a .md .0) (a .od)) (a .sts .0) (a .md .0) (a .od) (a .tad .0) (a .arrival .0) (c .release .ensures) f o
+    same-release dvbSecond (delayFits dvbSecond (a .md .0) (a .od))
+    (a .sts .0) (a .md .0) (a .od) (a .tad .0) (a .arrival .0) (c .release .ensures) f o
 
 delay-fits-requires : tie.Need-delay-fits-requires
 delay-fits-requires c κs = search needs
@@ -47,7 +50,8 @@ returns-3 : tie.Need-returns-3
 returns-3 c =
     let t = c .before .before .t .given in
     let w : toZ w64 (ofZ w64 (t .0 .0 .wait)) ≡ t .0 .0 .wait = search needs in
-    ap given (ap given (same-times refl refl refl w)) ∙ ap plainReply (sym (t .1)) ∙ answer (c .before .before .before .before)
+    ap given (ap given (same-times refl refl refl w)) ∙ ap plainReply (sym (t .1))
+    ∙ answer (c .before .before .before .before)
 
 pub dvb-release-spec : {M : Type 1} → statement M
 dvb-release-spec =

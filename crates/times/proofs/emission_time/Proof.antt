@@ -12,7 +12,7 @@ use borrow.Author.Needs.{needs}
 use Rattle.times.specs.Whole.{plus}
 use Rattle.times.specs.Release.{wrap}
 use Rattle.times.proofs.Formulas.{delay-less, delay-whole, sum-apart}
-use Rattle.times.proofs.Signed64.{of-delay}
+use Rattle.times.proofs.Words.{delay-holds}
 use Rattle.times.proofs.emission_time.Statement.{statement}
 use Rattle.times.proofs.emission_time.Tie as tie
 
@@ -20,7 +20,8 @@ use Rattle.times.proofs.emission_time.Tie as tie
 read : (c : tie.After-delay) → toZ w64 (ofZ w64 (c .delay .result)) ≡ pos (plus (c .before .args .md) (c .before .args .od))
 read c =
     let s = c .before in
-    of-delay (s .fits .md .fits) (s .fits .od) (c .delay .ensures) .is ∙ sym (delay-whole (s .args .u) (s .args .md) (s .args .od) (s .pre .1))
+    delay-holds (s .fits .md .fits) (s .fits .od) (c .delay .ensures) .is
+    ∙ sym (delay-whole (s .args .u) (s .args .md) (s .args .od) (s .pre .1))
 
 less : (c : tie.After-delay) → plus (c .before .args .md) (c .before .args .od) < c .before .args .u
 less c = let s = c .before in delay-less (s .args .u) (s .args .md) (s .args .od) (s .pre .1)

@@ -17,13 +17,17 @@ use Rattle.times.proofs.release.Statement.{statement}
 use Rattle.times.proofs.release.Tie as tie
 
 -- ---- what is known on the way
-within-limits : (c : tie.Else1) → let a = c .before .before .args in Kept (a .u) (a .fits) (a .sts) (a .md) (a .tad) (a .arrival)
+within-limits :
+    (c : tie.Else1) → let a = c .before .before .args in
+    Kept (a .u) (a .fits) (a .sts) (a .md) (a .tad) (a .arrival)
 within-limits c = kept _ _ _ _ _ _ (sym (c .before .limit .ensures) ∙ c .if1 .left)
 
 fit : (c : tie.Else1) → let a = c .before .before .args in delayFits (a .u) (a .md) (a .od) ≡ true
 fit c = c .before .before .pre .1 (within-limits c .fit)
 
-waits : (c : tie.After-wait-for) → let a = c .before .before .before .before .args in toZ w64 (ofZ w64 (c .wait-for .result)) ≡ waitOf (a .u) (a .sts) (a .md) (a .od) (a .tad) (a .arrival)
+waits :
+    (c : tie.After-wait-for) → let a = c .before .before .before .before .args in
+    toZ w64 (ofZ w64 (c .wait-for .result)) ≡ waitOf (a .u) (a .sts) (a .md) (a .od) (a .tad) (a .arrival)
 waits c =
     let s = c .before .before .before .before in
     let a = s .args in
@@ -31,7 +35,9 @@ waits c =
     ∙ ap (λ (z : ℤ). wait (a .md) z (a .tad) (c .before .link-delay .result)) (toZ-ofZ (s .fits .od))
     ∙ ap (wait (a .md) (a .od) (a .tad)) (c .before .link-delay .ensures)
 
-emits : (c : tie.After-emission-time) → let a = c .before .before .before .before .before .before .before .args in c .emission-time .result ≡ emission (a .u) (a .sts) (a .md) (a .od)
+emits :
+    (c : tie.After-emission-time) → let a = c .before .before .before .before .before .before .before .args in
+    c .emission-time .result ≡ emission (a .u) (a .sts) (a .md) (a .od)
 emits c =
     let s = c .before .before .before .before .before .before .before in
     let a = s .args in

@@ -8,7 +8,7 @@ use lib.Signed.{ltZ}
 use borrow.Author.Needs.{needs}
 use Rattle.times.specs.Whole.{within}
 use Rattle.times.proofs.Whole.{not-less}
-use Rattle.times.proofs.Signed64.{test}
+use Rattle.times.proofs.Words.{test}
 use Rattle.times.proofs.sum_within.Statement.{statement}
 use Rattle.times.proofs.sum_within.Tie as tie
 
@@ -33,7 +33,8 @@ returns-2 : tie.Need-returns-2
 returns-2 c =
     let a = c .before .args in
     let f = c .before .fits in
-    test (f .sum) (f .u .fits) ∙ sym (split (a .low) (a .u) (a .sum) false (sym (test (f .sum) (f .low .fits)) ∙ c .if1 .left))
+    test (f .sum) (f .u .fits)
+    ∙ sym (split (a .low) (a .u) (a .sum) false (sym (test (f .sum) (f .low .fits)) ∙ c .if1 .left))
 
 pub sum-within-spec : {M : Type 1} → statement M
 sum-within-spec = tie.close (tie.spec cast-if1 returns cast-result returns-2)

@@ -2,7 +2,7 @@
 -- Assumes nothing.
 use borrow.Author.Needs.{needs}
 use lib.Dec.{lit<}
-use Rattle.times.proofs.Signed64.{of-u32, of-i16, widen-fits, add, add-fits, sub, sub-fits}
+use Rattle.times.proofs.Words.{from-u32, from-i16, widen-fits, sum-holds, sum-fits, difference-holds, difference-fits}
 use Rattle.times.proofs.wait_for.Statement.{statement}
 use Rattle.times.proofs.wait_for.Tie as tie
 
@@ -13,27 +13,27 @@ cast-result-2 : tie.Need-cast-result-2
 cast-result-2 c = widen-fits (c .fits .od)
 
 add-result : tie.Need-add-result
-add-result c = add-fits (of-u32 (c .fits .md .fits)) (of-i16 (c .fits .od)) (lit< tt)
+add-result c = sum-fits (from-u32 (c .fits .md .fits)) (from-i16 (c .fits .od)) (lit< tt)
 
 cast-result-3 : tie.Need-cast-result-3
 cast-result-3 c = search needs
 
 sub-result : tie.Need-sub-result
 sub-result c =
-    sub-fits (add (of-u32 (c .fits .md .fits)) (of-i16 (c .fits .od)) (lit< tt)) (of-u32 (c .fits .tad .fits)) (lit< tt)
+    difference-fits (sum-holds (from-u32 (c .fits .md .fits)) (from-i16 (c .fits .od)) (lit< tt)) (from-u32 (c .fits .tad .fits)) (lit< tt)
 
 cast-result-4 : tie.Need-cast-result-4
 cast-result-4 c = search needs
 
 sub-result-2 : tie.Need-sub-result-2
 sub-result-2 c =
-    let a = add (of-u32 (c .fits .md .fits)) (of-i16 (c .fits .od)) (lit< tt) in
-    sub-fits (sub a (of-u32 (c .fits .tad .fits)) (lit< tt)) (of-u32 (c .fits .link .fits)) (lit< tt)
+    let a = sum-holds (from-u32 (c .fits .md .fits)) (from-i16 (c .fits .od)) (lit< tt) in
+    difference-fits (difference-holds a (from-u32 (c .fits .tad .fits)) (lit< tt)) (from-u32 (c .fits .link .fits)) (lit< tt)
 
 returns : tie.Need-returns
 returns c =
-    let a = add (of-u32 (c .fits .md .fits)) (of-i16 (c .fits .od)) (lit< tt) in
-    sub (sub a (of-u32 (c .fits .tad .fits)) (lit< tt)) (of-u32 (c .fits .link .fits)) (lit< tt) .is
+    let a = sum-holds (from-u32 (c .fits .md .fits)) (from-i16 (c .fits .od)) (lit< tt) in
+    difference-holds (difference-holds a (from-u32 (c .fits .tad .fits)) (lit< tt)) (from-u32 (c .fits .link .fits)) (lit< tt) .is
 
 pub wait-for-spec : {M : Type 1} → statement M
 wait-for-spec =

@@ -1,13 +1,13 @@
--- `notice::seal` meets its contract.
+-- `check_value::seal` meets its contract.
 -- Assumes nothing.
 use borrow.Author.Needs.{needs}
 use mathlib.Core.Path.{sym}
 use native.Mathlib.Omega.{arith}
 use lib.Seq.{length-take-le}
 use denote.Ref.{now}
-use Rattle.notice.proofs.Writing.{seal-put}
-use Rattle.notice.proofs.seal.Statement.{statement}
-use Rattle.notice.proofs.seal.Tie as tie
+use Rattle.check_value.proofs.Sealing.{seal-put}
+use Rattle.check_value.proofs.seal.Statement.{statement}
+use Rattle.check_value.proofs.seal.Tie as tie
 
 slice-reshare-prefix-register-of : tie.Need-slice-reshare-prefix-register-of
 slice-reshare-prefix-register-of c = search needs

@@ -1,0 +1,28 @@
+# Shared by run and bench, which stand in the repository's root: the proved library, and programs linked with it. All goes below target/.
+out=target/tests
+mkdir -p "$out"
+
+# The proved code as target/staticlib/libprobe.a.
+proved() {
+    rt staticlib probe
+}
+
+# build NAME WORDS...: target/tests/NAME from tests/NAME.rs, offline and with the standard library alone.
+build() {
+    name=$1
+    shift
+    rustc --edition 2021 -C opt-level=3 -C codegen-units=1 --check-cfg 'cfg(faults)' -L target/staticlib "$@" "tests/$name.rs" -o "$out/$name"
+}
+
+# step NAME COMMAND...: the last line of what the command prints, or all of it if it fails. target/tests/NAME.log has it whole.
+step() {
+    log=$out/$1.log
+    shift
+    if "$@" >"$log" 2>&1; then
+        tail -n 1 "$log"
+    else
+        cat "$log"
+        echo "tests: FAILED: $*"
+        return 1
+    fi
+}
