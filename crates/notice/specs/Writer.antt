@@ -5,7 +5,7 @@ use mathlib.Core.Bool.{Bool, cond}
 use mathlib.Core.List.{List, [], _∷_, _++_}
 use lib.ListN.{length, drop, replicate}
 use lib.Dec.{leb}
-use Rattle.wire.specs.Reply.{must}
+use Rattle.wire.specs.Reply.{Reply, refused, given, must, reply}
 use Rattle.wire.specs.Standards.{packetLength, syncByte, mipPid, longestAddressing, dvbSecond}
 use Rattle.wire.specs.BigEndian.{byte0, byte1, byte2, byte3}
 use Rattle.check_value.specs.Register.{sealed}
@@ -63,7 +63,11 @@ keptBy (suc n) old new = old
 unfoldable pub writeOf : List ℕ → Notice → List ℕ → List ℕ
 writeOf out n field = keptBy (writeRefusal (length out) n field) out (packetOf n field ++ drop packetLength out)
 
--- an answer's number, 0 for a packet written
-abbrev pub writtenNumber : Written → ℕ
-writtenNumber Done = 0
-writtenNumber (Refused n) = n
+-- what a write answers: a number, or that the packet was written
+unfoldable pub writeReply : ℕ → Notice → List ℕ → Reply (Unit {0})
+writeReply room n field = reply (writeRefusal room n field) tt
+
+-- an answer's number
+abbrev pub writtenReply : Written → Reply (Unit {0})
+writtenReply Done = given tt
+writtenReply (Refused n) = refused n

@@ -6,7 +6,7 @@ ghost use Prim.Native.Nat.{_+_, _-_, _≤_};
 ghost use lib.ListN.{length, take, drop};
 ghost use Rattle.notice.specs.Mip.{noticeOf};
 ghost use Rattle.notice.specs.Reader.{packetRefusal, headRefusal, bodyRefusal, readRefusal, readOf, readingReply, addressingPart, addressingOf};
-ghost use Rattle.notice.specs.Writer.{writeRefusal, flagsOf, headOf, fieldsOf, stuffing, writeOf, writtenNumber};
+ghost use Rattle.notice.specs.Writer.{writeRefusal, flagsOf, headOf, fieldsOf, stuffing, writeOf, writeReply, writtenReply};
 ghost use Rattle.notice.specs.Long.{Long, Framed, Writable};
 
 // What a notice says beside its addressing field.
@@ -278,7 +278,7 @@ fn put_stuffing(out: &mut [u8], from: usize)
 
 // Writes a notice into the first 188 bytes of a lent buffer; a refusal leaves it as it was.
 pub fn write_notice(out: &mut [u8], n: Notice, field: &[u8]) -> Written
-    ensures { λ r. ⌜ (writtenNumber r ≡ writeRefusal (length (now (out .entry))) n (now (field .entry))) × (now (out .exit) ≡ writeOf (now (out .entry)) n (now (field .entry))) ⌝ }
+    ensures { λ r. ⌜ (writtenReply r ≡ writeReply (length (now (out .entry))) n (now (field .entry))) × (now (out .exit) ≡ writeOf (now (out .entry)) n (now (field .entry))) ⌝ }
 {
     let refusal = write_refusal(out.len(), n, field);
     if refusal != 0 {

@@ -6,7 +6,7 @@ use Prim.Native.Nat.{ℕ, zero, suc}
 use native.Mathlib.Omega.{arith}
 use borrow.Author.Needs.{needs}
 use borrow.Author.Tests.{eq-eqb, ne-eqb, lt-ltb, le-ltb, le-leb, lt-leb}
-use Rattle.wire.specs.Reply.{Reply, refused, given, must, orElse, reply}
+use Rattle.wire.specs.Reply.{Reply, refused, given, must, orElse, reply, numberOf}
 
 -- a return out of a chain: each test on the way is rewritten by the branch that the code took
 pub ruleset tests = (needs, eq-eqb, ne-eqb, lt-ltb, le-ltb, le-leb, lt-leb)
@@ -46,3 +46,8 @@ reply-refuses (suc n) a h = refl
 pub given-zero : {A : Type 0} (n : ℕ) (a b : A) → reply n a ≡ given b → (n ≡ 0) × (a ≡ b)
 given-zero zero a b e = (refl, cc)
 given-zero (suc n) a b e = let z : _≡_ {A = ℕ} 0 1 = cc in absurd (omega arith)
+
+-- a reply's number is the number that it was made of
+pub number-reply : {A : Type 0} (n : ℕ) (a : A) → numberOf (reply n a) ≡ n
+number-reply zero a = refl
+number-reply (suc n) a = refl

@@ -21,3 +21,8 @@ orElse (suc m) n = suc m
 abbrev pub reply : {A : Type 0} → ℕ → A → Reply A
 reply zero a = given a
 reply (suc n) a = refused (suc n)
+
+-- a reply's number, 0 where it gives
+abbrev pub numberOf : {A : Type 0} → Reply A → ℕ
+numberOf (refused n) = n
+numberOf (given a) = 0

@@ -5,7 +5,9 @@ use mathlib.Core.Path.{_≡_, sym, ap, _∙_}
 use native.Mathlib.Omega.{arith}
 use lib.ListN.{length}
 use denote.Ref.{now}
-use Rattle.notice.specs.Writer.{writeOf}
+use Rattle.notice.specs.Writer.{writeOf, writeReply}
+use Rattle.wire.specs.Reply.{refused}
+use Rattle.wire.proofs.Tests.{reply-refuses, reply-gives}
 use Rattle.notice.proofs.Writing.{write-fits, packet-put, kept-old, kept-new}
 use Rattle.notice.proofs.write_notice.Statement.{statement}
 use Rattle.notice.proofs.write_notice.Tie as tie
@@ -14,8 +16,8 @@ write-refusal-requires : tie.Need-write-refusal-requires
 write-refusal-requires c κs = search needs
 
 returns : tie.Need-returns
-unfolding writeOf
-returns c = (c .before .write-refusal .ensures, sym (kept-old _ _ _ (λ e. c .if1 .taken (c .before .write-refusal .ensures ∙ e))))
+unfolding writeOf writeReply
+returns c = (ap refused (c .before .write-refusal .ensures) ∙ sym (reply-refuses _ _ (λ e. c .if1 .taken (c .before .write-refusal .ensures ∙ e))), sym (kept-old _ _ _ (λ e. c .if1 .taken (c .before .write-refusal .ensures ∙ e))))
 
 add-end : tie.Need-add-end
 add-end c = search needs
@@ -42,11 +44,11 @@ same-length : tie.Need-same-length
 same-length c = search needs
 
 returns-2 : tie.Need-returns-2
-unfolding writeOf
+unfolding writeOf writeReply
 returns-2 c =
     let a = c .before .before .before .before .before .before .before .before .before .before .before .before .before .before .before .before .args in
     let none = sym (c .before .before .before .before .before .before .before .before .before .before .before .before .before .write-refusal .ensures) ∙ c .before .before .before .before .before .before .before .before .before .before .before .before .if1 .left in (
-      sym none,
+      sym (reply-gives _ _ none),
       packet-put (a .n) (now (a .field)) (now (a .out)) (c .before .before .before .before .before .before .before .before .before .before .put-fields .last .0) (c .before .before .before .before .before .before .seal .last .0) (c .before .before .put-stuffing .last .0) (write-fits (length (now (a .out))) (a .n) (now (a .field)) none .short)
           (c .before .before .before .before .before .before .before .before .before .before .put-fields .ensures) (c .before .before .before .before .before .before .seal .ensures) (c .before .before .put-stuffing .ensures) ∙ sym (kept-new _ _ _ none),
     )

@@ -2,7 +2,10 @@
 -- Assumes nothing.
 use borrow.Author.Needs.{needs}
 use mathlib.Core.Path.{sym, ap, _∙_}
-use Rattle.notice.specs.Writer.{writtenNumber}
+use Rattle.wire.specs.Reply.{numberOf}
+use Rattle.wire.proofs.Tests.{number-reply}
+use Rattle.notice.specs.Writer.{writeReply, writtenReply}
+use Rattle.notice.specs.declared.Written.{Written}
 use Rattle.probe.proofs.probe_write.Statement.{statement}
 use Rattle.probe.proofs.probe_write.Tie as tie
 
@@ -19,13 +22,15 @@ same-length : tie.Need-same-length
 same-length c = search needs
 
 returns : tie.Need-returns
-returns c = (sym (ap writtenNumber (c .enum-told .given .1)) ∙ c .before .before .before .before .write-notice .ensures .0, c .before .before .before .before .write-notice .ensures .1)
+unfolding writeReply
+returns c = (sym (ap (λ (w : Written). numberOf (writtenReply w)) (c .enum-told .given .1)) ∙ ap numberOf (c .before .before .before .before .write-notice .ensures .0) ∙ number-reply _ _, c .before .before .before .before .write-notice .ensures .1)
 
 same-length-2 : tie.Need-same-length-2
 same-length-2 c = search needs
 
 returns-2 : tie.Need-returns-2
-returns-2 c = (sym (ap writtenNumber (c .before .k .given .1)) ∙ c .before .before .before .before .before .write-notice .ensures .0, c .before .before .before .before .before .write-notice .ensures .1)
+unfolding writeReply
+returns-2 c = (sym (ap (λ (w : Written). numberOf (writtenReply w)) (c .before .k .given .1)) ∙ ap numberOf (c .before .before .before .before .before .write-notice .ensures .0) ∙ number-reply _ _, c .before .before .before .before .before .write-notice .ensures .1)
 
 pub probe-write-spec : {M : Type 1} → statement M
 probe-write-spec =
