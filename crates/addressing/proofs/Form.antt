@@ -16,15 +16,15 @@ formed-alike : (b : Bool) (x y : Reply Settings) → isGiven x ≡ isGiven y →
 formed-alike true x y e = e
 formed-alike false x y e = refl
 
-functions-alike : (f : ℕ) (s : List ℕ) (t u : Settings) → isGiven (functionsIn f s t) ≡ isGiven (functionsIn f s u)
+functions-alike : (f : ℕ) (on also : Bool) (s : List ℕ) (t u : Settings) → isGiven (functionsIn f on s t) ≡ isGiven (functionsIn f also s u)
 unfolding functionsIn
-functions-alike zero s t u = refl
-functions-alike (suc f) [] t u = refl
-functions-alike (suc f) (tag ∷ []) t u = refl
-functions-alike (suc f) (tag ∷ n ∷ rest) t u =
+functions-alike zero on also s t u = refl
+functions-alike (suc f) on also [] t u = refl
+functions-alike (suc f) on also (tag ∷ []) t u = refl
+functions-alike (suc f) on also (tag ∷ n ∷ rest) t u =
     formed-alike (lengthFits tag n) _ _
     (formed-alike (leb (n - 2) (length rest)) _ _
-    (functions-alike f (drop (n - 2) rest) (setBy tag (take (n - 2) rest) t) (setBy tag (take (n - 2) rest) u)))
+    (functions-alike f on also (drop (n - 2) rest) (cond on (setBy tag (take (n - 2) rest) t) t) (cond also (setBy tag (take (n - 2) rest) u) u)))
 
 then-alike : (x y : Reply Settings) (k l : Settings → Reply Settings) → isGiven x ≡ isGiven y
     → ((a b : Settings) → isGiven (k a) ≡ isGiven (l b)) → isGiven (andThen x k) ≡ isGiven (andThen y l)
@@ -41,9 +41,9 @@ entries-alike (suc f) (hi ∷ []) site other t u = refl
 entries-alike (suc f) (hi ∷ lo ∷ []) site other t u = refl
 entries-alike (suc f) (hi ∷ lo ∷ loop ∷ rest) site other t u =
     formed-alike (leb loop (length rest)) _ _
-    (then-alike (functionsOf (take loop rest) t) (functionsOf (take loop rest) u) _ _
-    (functions-alike (suc (length (take loop rest))) (take loop rest) t u)
-    (λ a b. entries-alike f (drop loop rest) site other (cond (applies site (be16 hi lo)) a t) (cond (applies other (be16 hi lo)) b u)))
+    (then-alike (functionsOf (applies site (be16 hi lo)) (take loop rest) t) (functionsOf (applies other (be16 hi lo)) (take loop rest) u) _ _
+    (functions-alike (suc (length (take loop rest))) (applies site (be16 hi lo)) (applies other (be16 hi lo)) (take loop rest) t u)
+    (λ a b. entries-alike f (drop loop rest) site other a b))
 
 -- settings are given exactly where the form is right
 pub form-alone : (s : List ℕ) (site : ℕ) (t : Settings) → isGiven (settingsOf s site t) ≡ wellFormed s

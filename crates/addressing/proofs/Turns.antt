@@ -39,13 +39,13 @@ three-on s at h =
 pub left-of : (s : List ℕ) (at k : ℕ) → length (drop (at + k) s) ≡ length s - at - k
 left-of s at k = length-drop (at + k) s ∙ (omega arith)
 
-module _ (s : List ℕ) (at : ℕ) (t : Settings) where
-  pub functions-done : (f : ℕ) → length s - at < f → length s ≤ at → given t ≡ functionsIn f (drop at s) t
+module _ (on : Bool) (s : List ℕ) (at : ℕ) (t : Settings) where
+  pub functions-done : (f : ℕ) → length s - at < f → length s ≤ at → given t ≡ functionsIn f on (drop at s) t
   unfolding functionsIn
   functions-done zero h l = absurd (omega arith)
   functions-done (suc f) h l = rw (drop-of-length-le s l)
 
-  pub functions-cut : (f : ℕ) → at < length s → length s < at + 2 → refused 10 ≡ functionsIn f (drop at s) t
+  pub functions-cut : (f : ℕ) → at < length s → length s < at + 2 → refused 10 ≡ functionsIn f on (drop at s) t
   unfolding functionsIn
   functions-cut zero h l = refl
   functions-cut (suc f) h l =
@@ -53,13 +53,13 @@ module _ (s : List ℕ) (at : ℕ) (t : Settings) where
       rw (one-on s at (at + 1) h refl, drop-of-length-le s e)
 
   module _ (n : ℕ) (e : n ≡ getD s (at + 1) 0) (h : at + 2 ≤ length s) where
-    pub functions-unfit : (f : ℕ) → lengthFits (getD s at 0) n ≡ false → refused 10 ≡ functionsIn f (drop at s) t
+    pub functions-unfit : (f : ℕ) → lengthFits (getD s at 0) n ≡ false → refused 10 ≡ functionsIn f on (drop at s) t
     unfolding functionsIn
     functions-unfit zero q = refl
     functions-unfit (suc f) q = rw (two-on s at h, ← e, q)
 
     module _ (fit : lengthFits (getD s at 0) n ≡ true) where
-      pub functions-over : (f : ℕ) → length s < at + n → refused 10 ≡ functionsIn f (drop at s) t
+      pub functions-over : (f : ℕ) → length s < at + n → refused 10 ≡ functionsIn f on (drop at s) t
       unfolding functionsIn
       functions-over zero l = refl
       functions-over (suc f) l =
@@ -68,7 +68,7 @@ module _ (s : List ℕ) (at : ℕ) (t : Settings) where
           rw (two-on s at h, ← e, fit, lt-leb (n - 2) (length (drop (at + 2) s)) o)
 
       functions-next : (f : ℕ) → at + n ≤ length s
-          → functionsIn (suc f) (drop at s) t ≡ functionsIn f (drop (at + n) s) (setBy (getD s at 0) (take (n - 2) (drop (at + 2) s)) t)
+          → functionsIn (suc f) on (drop at s) t ≡ functionsIn f on (drop (at + n) s) (cond on (setBy (getD s at 0) (take (n - 2) (drop (at + 2) s)) t) t)
       unfolding functionsIn
       functions-next f l =
           let m : 2 ≤ n = at-least (getD s at 0) n fit in
@@ -77,13 +77,13 @@ module _ (s : List ℕ) (at : ℕ) (t : Settings) where
           rw (two-on s at h, ← e, fit, le-leb (n - 2) (length (drop (at + 2) s)) o, drop-drop (n - 2) (at + 2) s, q)
 
       -- with one turn less, the rest of the walk is the same
-      pub functions-on : (f : ℕ) (r : Reply Settings) (t′ : Settings) → length s - at < f → functionsIn f (drop at s) t ≡ r
-          → at + n ≤ length s → t′ ≡ setBy (getD s at 0) (take (n - 2) (drop (at + 2) s)) t
-          → (g : ℕ) × (length s - (at + n) < g) × (functionsIn g (drop (at + n) s) t′ ≡ r)
+      pub functions-on : (f : ℕ) (r : Reply Settings) (t′ : Settings) → length s - at < f → functionsIn f on (drop at s) t ≡ r
+          → at + n ≤ length s → t′ ≡ cond on (setBy (getD s at 0) (take (n - 2) (drop (at + 2) s)) t) t
+          → (g : ℕ) × (length s - (at + n) < g) × (functionsIn g on (drop (at + n) s) t′ ≡ r)
       functions-on zero r t′ b i l q = absurd (omega arith)
       functions-on (suc f) r t′ b i l q =
           let m : 2 ≤ n = at-least (getD s at 0) n fit in
-          (f, omega arith, ap (functionsIn f (drop (at + n) s)) q ∙ sym (functions-next f l) ∙ i)
+          (f, omega arith, ap (functionsIn f on (drop (at + n) s)) q ∙ sym (functions-next f l) ∙ i)
 
 module _ (s : List ℕ) (at site : ℕ) (t : Settings) where
   pub entries-done : (f : ℕ) → length s - at < f → length s ≤ at → given t ≡ entriesIn f (drop at s) site t
@@ -116,18 +116,18 @@ module _ (s : List ℕ) (at site : ℕ) (t : Settings) where
       room : n ≤ length (drop (at + 3) s)
       room = omega (arith, left-of s at 3)
 
-      pub entries-wrong : (f : ℕ) → functionsOf (take n (drop (at + 3) s)) t ≡ refused 10 → refused 10 ≡ entriesIn f (drop at s) site t
+      pub entries-wrong : (f : ℕ) → functionsOf (applies site (be16At s at)) (take n (drop (at + 3) s)) t ≡ refused 10 → refused 10 ≡ entriesIn f (drop at s) site t
       unfolding entriesIn
       entries-wrong zero w = refl
       entries-wrong (suc f) w = rw (three-on s at h, ← e, le-leb n (length (drop (at + 3) s)) room, w)
 
       -- with one turn less, the rest of the walk is the same
-      pub entries-on : (f : ℕ) (r : Reply Settings) (after t′ : Settings) → length s - at < f → entriesIn f (drop at s) site t ≡ r
-          → functionsOf (take n (drop (at + 3) s)) t ≡ given after → t′ ≡ cond (applies site (be16At s at)) after t
-          → (g : ℕ) × (length s - (at + 3 + n) < g) × (entriesIn g (drop (at + 3 + n) s) site t′ ≡ r)
+      pub entries-on : (f : ℕ) (r : Reply Settings) (after : Settings) → length s - at < f → entriesIn f (drop at s) site t ≡ r
+          → functionsOf (applies site (be16At s at)) (take n (drop (at + 3) s)) t ≡ given after
+          → (g : ℕ) × (length s - (at + 3 + n) < g) × (entriesIn g (drop (at + 3 + n) s) site after ≡ r)
       unfolding entriesIn
-      entries-on zero r after t′ b i w q = absurd (omega arith)
-      entries-on (suc f) r after t′ b i w q =
-          let next : entriesIn (suc f) (drop at s) site t ≡ entriesIn f (drop (at + 3 + n) s) site t′ =
-          rw (three-on s at h, ← e, le-leb n (length (drop (at + 3) s)) room, w, drop-drop n (at + 3) s, ← q) in
+      entries-on zero r after b i w = absurd (omega arith)
+      entries-on (suc f) r after b i w =
+          let next : entriesIn (suc f) (drop at s) site t ≡ entriesIn f (drop (at + 3 + n) s) site after =
+          rw (three-on s at h, ← e, le-leb n (length (drop (at + 3) s)) room, w, drop-drop n (at + 3) s) in
           (f, omega arith, sym next ∙ i)

@@ -30,8 +30,8 @@ entriesIn (suc f) (hi ∷ []) site t = refused 10
 entriesIn (suc f) (hi ∷ lo ∷ []) site t = refused 10
 entriesIn (suc f) (hi ∷ lo ∷ loop ∷ rest) site t =
     formed (leb loop (length rest))
-    (andThen (functionsOf (take loop rest) t) λ after.
-    entriesIn f (drop loop rest) site (cond (applies site (be16 hi lo)) after t))
+    (andThen (functionsOf (applies site (be16 hi lo)) (take loop rest) t) λ after.
+    entriesIn f (drop loop rest) site after)
 
 -- the settings of a site after the field, or refusal 10
 unfoldable pub settingsOf : List ℕ → ℕ → Settings → Reply Settings

@@ -27,15 +27,16 @@ abbrev pub formed : {A : Type 0} → Bool → Reply A → Reply A
 formed true r = r
 formed false r = refused 10
 
--- the functions of a loop, which they fill exactly; each takes two bytes or more, so that as many turns as bytes, and one, are enough
-unfoldable pub functionsIn : ℕ → List ℕ → Settings → Reply Settings
-functionsIn zero s t = refused 10
-functionsIn (suc f) [] t = given t
-functionsIn (suc f) (tag ∷ []) t = refused 10
-functionsIn (suc f) (tag ∷ n ∷ rest) t =
+-- the functions of a loop, which they fill exactly, and what they set where they apply
+-- each takes two bytes or more, so that as many turns as bytes, and one, are enough
+unfoldable pub functionsIn : ℕ → Bool → List ℕ → Settings → Reply Settings
+functionsIn zero on s t = refused 10
+functionsIn (suc f) on [] t = given t
+functionsIn (suc f) on (tag ∷ []) t = refused 10
+functionsIn (suc f) on (tag ∷ n ∷ rest) t =
     formed (lengthFits tag n)
     (formed (leb (n - 2) (length rest))
-    (functionsIn f (drop (n - 2) rest) (setBy tag (take (n - 2) rest) t)))
+    (functionsIn f on (drop (n - 2) rest) (cond on (setBy tag (take (n - 2) rest) t) t)))
 
-unfoldable pub functionsOf : List ℕ → Settings → Reply Settings
-functionsOf s t = functionsIn (suc (length s)) s t
+unfoldable pub functionsOf : Bool → List ℕ → Settings → Reply Settings
+functionsOf on s t = functionsIn (suc (length s)) on s t

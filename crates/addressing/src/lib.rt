@@ -41,25 +41,25 @@ fn length_fits(tag: u8, n: usize) -> bool
     n >= 2
 }
 
-// The settings after an entry for id: those that its functions give, where it applies to the site.
-fn entry_settings(site: u16, id: u16, after: Settings, before: Settings) -> Settings
-    ensures { λ r. ⌜ r ≡ cond (applies site id) after before ⌝ }
+// Whether an entry for id applies to the site.
+fn entry_applies(site: u16, id: u16) -> bool
+    ensures { λ r. ⌜ r ≡ applies site id ⌝ }
 {
     if id == 0 {
-        return after;
+        return true;
     }
-    if id == site {
-        return after;
-    }
-    before
+    id == site
 }
 
-// The settings after one function.
-fn set_by(tag: u8, body: &[u8], t: Settings) -> Settings
+// The settings after one function, where it applies.
+fn set_by(on: bool, tag: u8, body: &[u8], t: Settings) -> Settings
     requires { ⌜ lengthFits tag (length (now body) + 2) ≡ true ⌝ }
-    ensures { λ r. ⌜ r ≡ setBy tag (now (body .entry)) t ⌝ }
+    ensures { λ r. ⌜ r ≡ cond on (setBy tag (now (body .entry)) t) t ⌝ }
 {
     let mut after = t;
+    if !on {
+        return after;
+    }
     if tag == 0 {
         after.od = wire::signed_16(wire::number16(body[0], body[1]));
         return after;
@@ -75,9 +75,9 @@ fn set_by(tag: u8, body: &[u8], t: Settings) -> Settings
     after
 }
 
-// The settings after the functions of a loop.
-fn functions(s: &[u8], before: Settings) -> Walked
-    ensures { λ r. ⌜ walkedReply r ≡ functionsOf (now (s .entry)) before ⌝ }
+// The settings after the functions of a loop, where they apply.
+fn functions(on: bool, s: &[u8], before: Settings) -> Walked
+    ensures { λ r. ⌜ walkedReply r ≡ functionsOf on (now (s .entry)) before ⌝ }
 {
     let mut t = before;
     let mut at = 0;
@@ -96,7 +96,7 @@ fn functions(s: &[u8], before: Settings) -> Walked
         }
         let start = at + 2;
         let end = at + n;
-        t = set_by(tag, &s[start..end], t);
+        t = set_by(on, tag, &s[start..end], t);
         at = end;
     }
     Walked::Whole(t)
@@ -119,10 +119,11 @@ pub fn settings_of(s: &[u8], site: u16, before: Settings) -> Walked
         }
         let start = at + 3;
         let end = start + n;
-        let Walked::Whole(after) = functions(&s[start..end], t) else {
+        let on = entry_applies(site, wire::number16(s[at], s[at + 1]));
+        let Walked::Whole(after) = functions(on, &s[start..end], t) else {
             return Walked::Wrong;
         };
-        t = entry_settings(site, wire::number16(s[at], s[at + 1]), after, t);
+        t = after;
         at = end;
     }
     Walked::Whole(t)

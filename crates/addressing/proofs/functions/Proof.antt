@@ -1,7 +1,7 @@
 -- `addressing::functions` meets its contract.
 -- Assumes nothing.
 use mathlib.Core.Path.{_≡_, refl, sym, ap, _∙_}
-use mathlib.Core.Bool.{Bool, true}
+use mathlib.Core.Bool.{cond}
 use mathlib.Core.List.{List}
 use Prim.Native.Nat.{ℕ, suc, _+_, _-_, _≤_, _<_}
 use native.Mathlib.Omega.{arith}
@@ -17,10 +17,10 @@ use Rattle.addressing.proofs.functions.Statement.{statement}
 use Rattle.addressing.proofs.functions.Tie as tie
 
 abbrev Inv-loop : tie.InvT-loop
-Inv-loop s t₀ at₀ t at = (at ≤ length s) × (f : ℕ) × (length s - at < f) × (functionsIn f (drop at s) t ≡ functionsOf s t₀)
+Inv-loop on s t₀ at₀ t at = (at ≤ length s) × (f : ℕ) × (length s - at < f) × (functionsIn f on (drop at s) t ≡ functionsOf on s t₀)
 
 abbrev μ-loop : tie.MeasureT-loop
-μ-loop s t₀ at₀ t at = length s - at
+μ-loop on s t₀ at₀ t at = length s - at
 
 loop-holds : tie.Need-loop-holds Inv-loop μ-loop
 unfolding functionsOf
@@ -31,9 +31,10 @@ sub-left c = search needs
 
 returns : tie.Need-returns Inv-loop μ-loop
 returns c =
-    let s = now (c .before .before .before .before .args .s) in
+    let a = c .before .before .before .before .args in
+    let s = now (a .s) in
     let l = c .before .before .loop in
-    functions-cut s (l .at) (l .t) (l .inv .1) (omega arith) (omega arith) ∙ l .inv .3
+    functions-cut (a .on) s (l .at) (l .t) (l .inv .1) (omega arith) (omega arith) ∙ l .inv .3
 
 shared-slice-read-tag : tie.Need-shared-slice-read-tag Inv-loop μ-loop
 shared-slice-read-tag c = search needs
@@ -52,15 +53,17 @@ length-fits-requires c κs = search needs
 
 returns-2 : tie.Need-returns-2 Inv-loop μ-loop
 returns-2 c =
-    let s = now (c .before .before .before .before .before .before .before .before .before .args .s) in
+    let a = c .before .before .before .before .before .before .before .before .before .args in
+    let s = now (a .s) in
     let l = c .before .before .before .before .before .before .before .loop in
-    functions-unfit s (l .at) (l .t) (c .before .before .wide .result) (c .before .before .wide .ensures) (omega arith) (l .inv .1) (sym (c .before .length-fits .ensures) ∙ not-true _ (c .if2 .taken)) ∙ l .inv .3
+    functions-unfit (a .on) s (l .at) (l .t) (c .before .before .wide .result) (c .before .before .wide .ensures) (omega arith) (l .inv .1) (sym (c .before .length-fits .ensures) ∙ not-true _ (c .if2 .taken)) ∙ l .inv .3
 
 returns-3 : tie.Need-returns-3 Inv-loop μ-loop
 returns-3 c =
-    let s = now (c .before .before .before .before .before .before .before .before .before .before .args .s) in
+    let a = c .before .before .before .before .before .before .before .before .before .before .args in
+    let s = now (a .s) in
     let l = c .before .before .before .before .before .before .before .before .loop in
-    functions-over s (l .at) (l .t) (c .before .before .before .wide .result) (c .before .before .before .wide .ensures) (omega arith) (sym (c .before .before .length-fits .ensures) ∙ not-false _ (c .before .if2 .left)) (l .inv .1) (omega arith) ∙ l .inv .3
+    functions-over (a .on) s (l .at) (l .t) (c .before .before .before .wide .result) (c .before .before .before .wide .ensures) (omega arith) (sym (c .before .before .length-fits .ensures) ∙ not-false _ (c .before .if2 .left)) (l .inv .1) (omega arith) ∙ l .inv .3
 
 add-start : tie.Need-add-start Inv-loop μ-loop
 add-start c = search needs
@@ -89,7 +92,8 @@ part-set-by-end c = search needs
 
 set-by-requires : tie.Need-set-by-requires Inv-loop μ-loop
 set-by-requires c κs =
-    let s = now (c .before .before .before .before .before .before .before .before .before .before .before .args .s) in
+    let a = c .before .before .before .before .before .before .before .before .before .before .before .args in
+    let s = now (a .s) in
     let l = c .before .before .before .before .before .before .before .before .before .loop in
     let fit = sym (c .before .before .before .length-fits .ensures) ∙ not-false _ (c .before .before .if2 .left) in
     ap (lengthFits _) (body-length s (l .at) (c .before .before .before .before .wide .result) (at-least _ _ fit) (omega arith)) ∙ fit
@@ -99,20 +103,22 @@ loop-less c = omega (arith, at-least _ _ (sym (c .before .before .before .before
 
 loop-again : tie.Need-loop-again Inv-loop μ-loop
 loop-again c =
-    let s = now (c .before .before .before .before .before .before .before .before .before .before .before .before .args .s) in
+    let a = c .before .before .before .before .before .before .before .before .before .before .before .before .args in
+    let s = now (a .s) in
     let l = c .before .before .before .before .before .before .before .before .before .before .loop in
     let w = c .before .before .before .before .before .wide in
     let fit = sym (c .before .before .before .before .length-fits .ensures) ∙ not-false _ (c .before .before .before .if2 .left) in
     let o =
-    functions-on s (l .at) (l .t) (w .result) (w .ensures) (omega arith) fit (l .inv .1) (functionsOf s (c .before .before .before .before .before .before .before .before .before .before .before .before .args .before)) (c .set-by .result) (l .inv .2) (l .inv .3) (omega arith)
-    (c .set-by .ensures ∙ ap (λ (k : ℕ). setBy (getD s (l .at) 0) (take k (drop (l .at + 2) s)) (l .t)) (body-count (l .at) (w .result))) in
+    functions-on (a .on) s (l .at) (l .t) (w .result) (w .ensures) (omega arith) fit (l .inv .1) (functionsOf (a .on) s (a .before)) (c .set-by .result) (l .inv .2) (l .inv .3) (omega arith)
+    (c .set-by .ensures ∙ ap (λ (k : ℕ). cond (a .on) (setBy (getD s (l .at) 0) (take k (drop (l .at + 2) s)) (l .t)) (l .t)) (body-count (l .at) (w .result))) in
     (omega arith, o .0, o .1, o .2)
 
 returns-4 : tie.Need-returns-4 Inv-loop μ-loop
 returns-4 c =
-    let s = now (c .before .before .before .args .s) in
+    let a = c .before .before .before .args in
+    let s = now (a .s) in
     let l = c .before .loop in
-    functions-done s (l .at) (l .t) (l .inv .1) (l .inv .2) (omega arith) ∙ l .inv .3
+    functions-done (a .on) s (l .at) (l .t) (l .inv .1) (l .inv .2) (omega arith) ∙ l .inv .3
 
 pub functions-spec : {M : Type 1} → statement M
 functions-spec =

@@ -1,14 +1,14 @@
 -- `addressing::settings_of` meets its contract.
 -- Assumes nothing.
 use mathlib.Core.Path.{_≡_, refl, sym, ap, _∙_}
-use mathlib.Core.Bool.{cond}
+use mathlib.Core.Bool.{Bool}
 use mathlib.Core.List.{List}
 use Prim.Native.Nat.{ℕ, suc, _+_, _-_, _≤_, _<_}
 use native.Mathlib.Omega.{arith}
 use lib.ListN.{length, take, drop}
 use denote.Ref.{now}
 use borrow.Author.Needs.{needs}
-use Rattle.wire.specs.Reply.{Reply}
+use Rattle.wire.specs.BigEndian.{be16At}
 use Rattle.addressing.specs.declared.Settings.{Settings}
 use Rattle.addressing.specs.declared.Walked.{Walked}
 use Rattle.addressing.specs.Functions.{functionsOf}
@@ -24,11 +24,13 @@ abbrev μ-loop : tie.MeasureT-loop
 μ-loop s site t₀ at₀ t at = length s - at
 
 -- what the functions of an entry were found to be
-walked : (s : List ℕ) (at n : ℕ) (t : Settings) (r v : Walked) → walkedReply r ≡ functionsOf (take (at + 3 + n - (at + 3)) (drop (at + 3) s)) t → r ≡ v
-    → functionsOf (take n (drop (at + 3) s)) t ≡ walkedReply v
-walked s at n t r v e q =
+walked : (s : List ℕ) (at n site : ℕ) (t : Settings) (on : Bool) (r v : Walked) → on ≡ applies site (be16At s at)
+    → walkedReply r ≡ functionsOf on (take (at + 3 + n - (at + 3)) (drop (at + 3) s)) t → r ≡ v
+    → functionsOf (applies site (be16At s at)) (take n (drop (at + 3) s)) t ≡ walkedReply v
+walked s at n site t on r v a e q =
     let k : n ≡ at + 3 + n - (at + 3) = omega arith in
-    ap (λ (m : ℕ). functionsOf (take m (drop (at + 3) s)) t) k ∙ sym e ∙ ap walkedReply q
+    ap (λ (b : Bool). functionsOf b (take n (drop (at + 3) s)) t) (sym a)
+    ∙ ap (λ (m : ℕ). functionsOf on (take m (drop (at + 3) s)) t) k ∙ sym e ∙ ap walkedReply q
 
 loop-holds : tie.Need-loop-holds Inv-loop μ-loop
 unfolding settingsOf
@@ -39,9 +41,9 @@ sub-left c = search needs
 
 returns : tie.Need-returns Inv-loop μ-loop
 returns c =
-    let s = now (c .before .before .before .before .args .s) in
+    let a = c .before .before .before .before .args in
     let l = c .before .before .loop in
-    entries-cut s (l .at) (c .before .before .before .before .args .site) (l .t) (l .inv .1) (omega arith) (omega arith) ∙ l .inv .3
+    entries-cut (now (a .s)) (l .at) (a .site) (l .t) (l .inv .1) (omega arith) (omega arith) ∙ l .inv .3
 
 add-wide : tie.Need-add-wide Inv-loop μ-loop
 add-wide c = search needs
@@ -54,15 +56,30 @@ wide-requires c κs = search needs
 
 returns-2 : tie.Need-returns-2 Inv-loop μ-loop
 returns-2 c =
-    let s = now (c .before .before .before .before .before .before .before .args .s) in
+    let a = c .before .before .before .before .before .before .before .args in
     let l = c .before .before .before .before .before .loop in
-    entries-over s (l .at) (c .before .before .before .before .before .before .before .args .site) (l .t) (c .before .wide .result) (c .before .wide .ensures) (omega arith) (l .inv .1) (omega arith) ∙ l .inv .3
+    entries-over (now (a .s)) (l .at) (a .site) (l .t) (c .before .wide .result) (c .before .wide .ensures) (omega arith) (l .inv .1) (omega arith) ∙ l .inv .3
 
 add-start : tie.Need-add-start Inv-loop μ-loop
 add-start c = search needs
 
 add-end : tie.Need-add-end Inv-loop μ-loop
 add-end c = search needs
+
+shared-slice-read-number16 : tie.Need-shared-slice-read-number16 Inv-loop μ-loop
+shared-slice-read-number16 c = search needs
+
+add-number16 : tie.Need-add-number16 Inv-loop μ-loop
+add-number16 c = search needs
+
+shared-slice-read-number16-2 : tie.Need-shared-slice-read-number16-2 Inv-loop μ-loop
+shared-slice-read-number16-2 c = search needs
+
+number16-requires : tie.Need-number16-requires Inv-loop μ-loop
+number16-requires c κs = search needs
+
+entry-applies-requires : tie.Need-entry-applies-requires Inv-loop μ-loop
+entry-applies-requires c κs = search needs
 
 sub-functions : tie.Need-sub-functions Inv-loop μ-loop
 sub-functions c = search needs
@@ -84,26 +101,12 @@ enum-told c = search needs
 
 returns-3 : tie.Need-returns-3 Inv-loop μ-loop
 returns-3 c =
-    let s = now (c .before .before .before .before .before .before .before .before .before .before .before .args .s) in
-    let l = c .before .before .before .before .before .before .before .before .before .loop in
-    let w = c .before .before .before .before .before .wide in
-    entries-wrong s (l .at) (c .before .before .before .before .before .before .before .before .before .before .before .args .site) (l .t) (w .result) (w .ensures) (omega arith) (omega arith) (l .inv .1)
-    (walked s (l .at) (w .result) (l .t) (c .before .before .functions .result) _ (c .before .before .functions .ensures) (c .enum-told .given .1)) ∙ l .inv .3
-
-shared-slice-read-number16 : tie.Need-shared-slice-read-number16 Inv-loop μ-loop
-shared-slice-read-number16 c = search needs
-
-add-number16 : tie.Need-add-number16 Inv-loop μ-loop
-add-number16 c = search needs
-
-shared-slice-read-number16-2 : tie.Need-shared-slice-read-number16-2 Inv-loop μ-loop
-shared-slice-read-number16-2 c = search needs
-
-number16-requires : tie.Need-number16-requires Inv-loop μ-loop
-number16-requires c κs = search needs
-
-entry-settings-requires : tie.Need-entry-settings-requires Inv-loop μ-loop
-entry-settings-requires c κs = search needs
+    let a = c .before .before .before .before .before .before .before .before .before .before .before .before .before .before .before .args in
+    let l = c .before .before .before .before .before .before .before .before .before .before .before .before .before .loop in
+    let w = c .before .before .before .before .before .before .before .before .before .wide in
+    entries-wrong (now (a .s)) (l .at) (a .site) (l .t) (w .result) (w .ensures) (omega arith) (omega arith) (l .inv .1)
+    (walked (now (a .s)) (l .at) (w .result) (a .site) (l .t) (c .before .before .before .before .entry-applies .result) (c .before .before .functions .result) _ (c .before .before .before .before .entry-applies .ensures ∙ ap (applies (a .site)) (c .before .before .before .before .before .number16 .ensures)) (c .before .before .functions .ensures) (c .enum-told .given .1))
+    ∙ l .inv .3
 
 loop-less : tie.Need-loop-less Inv-loop μ-loop
 loop-less c = search needs
@@ -114,18 +117,17 @@ loop-again c =
     let s = now (a .s) in
     let l = c .before .before .before .before .before .before .before .before .before .before .before .before .before .before .loop in
     let w = c .before .before .before .before .before .before .before .before .before .before .wide in
-    let q = c .before .before .before .before .before .after .given in
+    let q = c .before .after .given in
     let o =
-    entries-on s (l .at) (a .site) (l .t) (w .result) (w .ensures) (omega arith) (omega arith) (l .inv .1) (settingsOf s (a .site) (a .before)) (q .0 .0) (c .entry-settings .result) (l .inv .2) (l .inv .3)
-    (walked s (l .at) (w .result) (l .t) (c .before .before .before .before .before .before .before .functions .result) _ (c .before .before .before .before .before .before .before .functions .ensures) (q .1))
-    (c .entry-settings .ensures ∙ ap (λ (id : ℕ). cond (applies (a .site) id) (q .0 .0) (l .t)) (c .before .number16 .ensures)) in
+    entries-on s (l .at) (a .site) (l .t) (w .result) (w .ensures) (omega arith) (omega arith) (l .inv .1) (settingsOf s (a .site) (a .before)) (q .0 .0) (l .inv .2) (l .inv .3)
+    (walked s (l .at) (w .result) (a .site) (l .t) (c .before .before .before .before .before .entry-applies .result) (c .before .before .before .functions .result) _ (c .before .before .before .before .before .entry-applies .ensures ∙ ap (applies (a .site)) (c .before .before .before .before .before .before .number16 .ensures)) (c .before .before .before .functions .ensures) (q .1)) in
     (omega arith, o .0, o .1, o .2)
 
 returns-4 : tie.Need-returns-4 Inv-loop μ-loop
 returns-4 c =
-    let s = now (c .before .before .before .args .s) in
+    let a = c .before .before .before .args in
     let l = c .before .loop in
-    entries-done s (l .at) (c .before .before .before .args .site) (l .t) (l .inv .1) (l .inv .2) (omega arith) ∙ l .inv .3
+    entries-done (now (a .s)) (l .at) (a .site) (l .t) (l .inv .1) (l .inv .2) (omega arith) ∙ l .inv .3
 
 pub settings-of-spec : {M : Type 1} → statement M
 settings-of-spec =
@@ -142,6 +144,11 @@ settings-of-spec =
     returns-2
     add-start
     add-end
+    shared-slice-read-number16
+    add-number16
+    shared-slice-read-number16-2
+    number16-requires
+    entry-applies-requires
     sub-functions
     part-functions-start
     part-functions-end
@@ -149,11 +156,6 @@ settings-of-spec =
     enum-known-after
     enum-told
     returns-3
-    shared-slice-read-number16
-    add-number16
-    shared-slice-read-number16-2
-    number16-requires
-    entry-settings-requires
     loop-less
     loop-again
     returns-4)
