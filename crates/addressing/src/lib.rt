@@ -19,12 +19,6 @@ pub enum Walked {
     Wrong,
 }
 
-fn wide(x: u8) -> usize
-    ensures { λ r. ⌜ r ≡ x ⌝ }
-{
-    x as usize
-}
-
 // Whether a function of this tag may have this length.
 fn length_fits(tag: u8, n: usize) -> bool
     ensures { λ r. ⌜ r ≡ lengthFits tag n ⌝ }
@@ -87,7 +81,7 @@ fn functions(on: bool, s: &[u8], before: Settings) -> Walked
             return Walked::Wrong;
         }
         let tag = s[at];
-        let n = wide(s[at + 1]);
+        let n = wire::wide(s[at + 1]);
         if !length_fits(tag, n) {
             return Walked::Wrong;
         }
@@ -113,7 +107,7 @@ pub fn settings_of(s: &[u8], site: u16, before: Settings) -> Walked
         if left < 3 {
             return Walked::Wrong;
         }
-        let n = wide(s[at + 2]);
+        let n = wire::wide(s[at + 2]);
         if left - 3 < n {
             return Walked::Wrong;
         }

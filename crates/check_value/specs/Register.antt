@@ -3,7 +3,10 @@
 -- Assumes nothing.
 use mathlib.Core.List.{List, [], _∷_, _++_}
 use Prim.Native.Nat.{ℕ, zero, suc, _+_, _*_, _/_, _%_, _^_}
+use mathlib.Core.Bool.{cond}
 use lib.Bits.{bitXor}
+use lib.Dec.{leb}
+use lib.ListN.{length, take, drop}
 use Rattle.wire.specs.BigEndian.{bytes32}
 
 -- the polynomial of annex A but for x^32: the places that have an adder, and z(0)
@@ -35,3 +38,7 @@ register xs = registerFrom allOnes xs
 -- bytes with their check value behind them, the most significant byte first, as the crc_32 field has it
 abbrev pub sealed : List ℕ → List ℕ
 sealed xs = xs ++ bytes32 (register xs)
+
+-- d with the check value of its first `end` bytes behind them, or d as it is where the four bytes do not fit
+unfoldable pub sealedAt : ℕ → List ℕ → List ℕ
+sealedAt end d = cond (leb (end + 4) (length d)) (sealed (take end d) ++ drop (end + 4) d) d

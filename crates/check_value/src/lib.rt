@@ -1,10 +1,9 @@
 // The check value of TS 101 191 annex A: the CRC decoder's register after some bytes, eight of them a turn.
 ghost use mathlib.Core.Path.{_≡_};
 ghost use Prim.Native.Nat.{_+_, _*_, _/_, _%_, _^_, _<_, _≤_};
-ghost use mathlib.Core.List.{_++_};
-ghost use lib.ListN.{length, take, drop};
+ghost use lib.ListN.{length};
 ghost use Rattle.wire.specs.BigEndian.{be32At};
-ghost use Rattle.check_value.specs.Register.{bitsIn, register, sealed};
+ghost use Rattle.check_value.specs.Register.{bitsIn, register, sealedAt};
 ghost use Rattle.check_value.specs.Table.{leftOf, IsTable};
 
 mod table;
@@ -74,12 +73,16 @@ pub fn register_of(s: &[u8]) -> u32
     z
 }
 
-// Puts the check value of the first `end` bytes behind them.
-// A helper of the crates above, and no call of the product: its callers see to the room.
+// Puts the check value of the first `end` bytes behind them; puts nothing where it does not fit.
 pub fn seal(out: &mut [u8], end: usize)
-    requires { ⌜ end + 4 ≤ length (now out) ⌝ }
-    ensures { λ _. ⌜ now (out .exit) ≡ sealed (take end (now (out .entry))) ++ drop (end + 4) (now (out .entry)) ⌝ }
+    ensures { λ _. ⌜ now (out .exit) ≡ sealedAt end (now (out .entry)) ⌝ }
 {
+    if out.len() < end {
+        return;
+    }
+    if out.len() - end < 4 {
+        return;
+    }
     let sum = register_of(&out[..end]);
     let check = [
         wire::fourth_byte(sum),

@@ -1,22 +1,15 @@
 -- The addressing field as a part of the bytes that the code takes out.
 -- Assumes nothing.
-use mathlib.Core.Path.{_≡_, refl, sym, ap, _∙_}
+use mathlib.Core.Path.{_≡_, sym, ap, _∙_}
 use mathlib.Core.List.{List, []}
-use Prim.Native.Nat.{ℕ, zero, suc, _+_, _-_, _≤_, _<_}
+use Prim.Native.Nat.{ℕ, _+_, _-_, _≤_, _<_}
 use native.Mathlib.Omega.{arith}
 use lib.ListN.{length, take, drop, getD}
 use lib.Dec.{leb}
 use borrow.Author.Tests.{le-leb, lt-leb}
 use Rattle.notice.specs.Mip.{addressingField}
 use Rattle.notice.specs.Long.{Framed}
-use Rattle.notice.specs.Reader.{unless, addressingPart}
-
-pub unless-none : (n : ℕ) (xs : List ℕ) → n ≡ 0 → unless n xs ≡ xs
-unless-none n xs e = ap (λ (k : ℕ). unless k xs) e
-
-pub unless-refused : (n : ℕ) (xs : List ℕ) → (n ≡ 0 → ⊥) → unless n xs ≡ []
-unless-refused zero xs h = absurd (h refl)
-unless-refused (suc n) xs h = refl
+use Rattle.notice.specs.Reader.{addressingPart}
 
 module _ (s : List ℕ) where
   part : (a : ℕ) → a ≡ getD s 20 0 → take (21 + a - 21) (drop 21 s) ≡ addressingField s

@@ -1,7 +1,9 @@
 -- Reading and writing undo each other, and no packet with one bit changed is read.
---     written-read      what an accepted write wrote is read back as exactly its fields
---     read-written      what is read and written again is the same packet, where its stuffing is 0xFF
---     one-bit-refused   an accepted packet with one bit of its bytes 0 to 24 + a flipped is refused
+--     written-read        what an accepted write wrote is read back as exactly its fields
+--     written-addressing  and as exactly its addressing field
+--     rewrite-accepted    what was read is accepted by the writer
+--     read-written        what is read and written again is the same packet, where its stuffing is 0xFF
+--     one-bit-refused     an accepted packet with one bit of its bytes 0 to 24 + a flipped is refused
 -- Assumes nothing.
 use mathlib.Core.Path.{_≡_, refl, sym, ap, ap₂, _∙_, subst}
 use mathlib.Core.Bool.{Bool, true, false, cond}
@@ -18,7 +20,7 @@ use borrow.Author.Tests.{leb-true, le-leb, lt-leb, ltb-true}
 use Rattle.wire.specs.Reply.{Reply, refused, given, reply}
 use Rattle.wire.specs.Standards.{dvbSecond}
 use Rattle.wire.specs.BigEndian.{be16, byte0, byte1, bytes32}
-use Rattle.wire.proofs.Tests.{passed}
+use Rattle.wire.proofs.Tests.{kept-new}
 use Rattle.wire.proofs.Numbers.{spelled16, spelled24, spelled32}
 use Rattle.check_value.specs.Register.{register, sealed}
 use Rattle.check_value.proofs.Sealing.{sealed-length}
@@ -31,9 +33,8 @@ use Rattle.notice.specs.Long.{Writable}
 use Rattle.notice.specs.Reader.{readRefusal, readOf, addressingOf}
 use Rattle.notice.specs.Writer.{writeRefusal, flagsOf, headOf, fieldsOf, stuffing, packetOf, writeOf}
 use Rattle.notice.specs.declared.Notice.{Notice}
-use Rattle.notice.proofs.Parts.{unless-none}
 use Rattle.notice.proofs.Sound.{Sound, accepted-sound, sound-accepted, sound-reads, reads-sound}
-use Rattle.notice.proofs.Writing.{head-length, fields-length, length-stuffing, write-fits, write-none, kept-new}
+use Rattle.notice.proofs.Writing.{head-length, fields-length, length-stuffing, judged, write-fits, write-none}
 use Rattle.notice.proofs.Front.{Bytes, elements, elements-are, head-again}
 
 -- ---- written, then read
@@ -46,20 +47,6 @@ pub record Fits (n : Notice) : Type 0 where
 -- a time within the second has 24 bits
 time-fits : (t : ℕ) → inSecond dvbSecond t ≡ true → t < 16777216
 time-fits t e = omega (arith, ltb-true t dvbSecond e)
-
--- what the writer has judged of the addressing field and the times
-judged : (space : ℕ) (n : Notice) (f : List ℕ) → writeRefusal space n f ≡ 0
-    → (wellFormed f ≡ true) × (inSecond dvbSecond (n .sts .0) ≡ true) × (inSecond dvbSecond (n .md .0) ≡ true)
-unfolding writeRefusal
-judged space n f e =
-    let p₁ = passed (leb 188 space) _ _ e in
-    let p₂ = passed (leb (n .continuity) 15) _ _ (p₁ .1) in
-    let p₃ = passed (leb (n .reserved) 32767) _ _ (p₂ .1) in
-    let p₄ = passed (leb (length f) 163) _ _ (p₃ .1) in
-    let p₅ = passed (wellFormed f) _ _ (p₄ .1) in
-    let p₆ = passed (inSecond dvbSecond (n .sts .0)) _ _ (p₅ .1) in
-    let p₇ = passed (inSecond dvbSecond (n .md .0)) _ _ (p₆ .1) in
-    (p₅ .0, p₆ .0, p₇ .0)
 
 -- the periodic flag is the top bit
 flag-back : (t : Bool) (r : ℕ) → r ≤ 32767 → leb 128 (byte1 (cond t (32768 + r) r)) ≡ t
@@ -107,8 +94,8 @@ module _ (n : Notice) (f : List ℕ) (space : ℕ) (w : Writable space n f) wher
           pointer = spelled16 (n .pointer) (k .pointer) i;
           periodic = flag-back (n .periodic) (n .reserved) (w .bits) i;
           reserved = bits-back (n .periodic) (n .reserved) (w .bits) i;
-          sts = record { 0 = spelled24 (n .sts .0) (time-fits (n .sts .0) (j .1)) i };
-          md = record { 0 = spelled24 (n .md .0) (time-fits (n .md .0) (j .2)) i };
+          sts = record { 0 = spelled24 (n .sts .0) (time-fits (n .sts .0) (j .2)) i };
+          md = record { 0 = spelled24 (n .md .0) (time-fits (n .md .0) (j .3)) i };
           tps = spelled32 (n .tps) (k .tps) i;
         }
 
@@ -127,9 +114,9 @@ module _ (n : Notice) (f : List ℕ) (space : ℕ) (w : Writable space n f) wher
           room = w .short;
           section = refl;
           check = packet-check;
-          form = ap wellFormed packet-field ∙ j .0;
-          sts = ap (inSecond dvbSecond) (spelled24 (n .sts .0) (time-fits (n .sts .0) (j .1))) ∙ j .1;
-          md = ap (inSecond dvbSecond) (spelled24 (n .md .0) (time-fits (n .md .0) (j .2))) ∙ j .2;
+          form = ap wellFormed packet-field ∙ j .1;
+          sts = ap (inSecond dvbSecond) (spelled24 (n .sts .0) (time-fits (n .sts .0) (j .2))) ∙ j .2;
+          md = ap (inSecond dvbSecond) (spelled24 (n .md .0) (time-fits (n .md .0) (j .3))) ∙ j .3;
         }
 
 -- what an accepted write left in the first 188 bytes of the output is read back as exactly its fields
@@ -153,7 +140,7 @@ module _ (out : List ℕ) (n : Notice) (f : List ℕ) (e : writeRefusal (length 
   unfolding addressingOf packetOf fieldsOf headOf
   written-addressing =
       ap addressingOf left
-      ∙ unless-none _ (addressingField (packetOf n f)) (sound-accepted (packetOf n f) (packet-sound n f (length out) fitting e k))
+      ∙ kept-new _ [] (addressingField (packetOf n f)) (sound-accepted (packetOf n f) (packet-sound n f (length out) fitting e k))
       ∙ packet-field n f (length out) fitting
 
 -- ---- read, then written
@@ -191,7 +178,7 @@ module _ (s : List ℕ) (n : Notice) (e : readOf s ≡ given n) (bytes : Bytes s
 
   same-field : addressingOf s ≡ addressingField s
   unfolding addressingOf
-  same-field = unless-none _ (addressingField s) (sound-accepted s sound)
+  same-field = kept-new _ [] (addressingField s) (sound-accepted s sound)
 
   -- the notice and the addressing field that were read are accepted by the writer, for any output with room
   pub rewrite-accepted : (space : ℕ) → 188 ≤ space → writeRefusal space n (addressingOf s) ≡ 0
@@ -209,9 +196,9 @@ module _ (s : List ℕ) (n : Notice) (e : readOf s ≡ given n) (bytes : Bytes s
           }
 
   -- where the stuffing is 0xFF, the packet that they make is the packet that was read
-  pub read-written : drop (25 + individualAddressingLength s) s ≡ stuffing (163 - individualAddressingLength s) → packetOf n (addressingOf s) ≡ s
+  pub same-packet : drop (25 + individualAddressingLength s) s ≡ stuffing (163 - individualAddressingLength s) → packetOf n (addressingOf s) ≡ s
   unfolding packetOf
-  read-written rest =
+  same-packet rest =
       subst (λ (m : Notice). packetOf m (addressingOf s) ≡ s) (reads-sound s n e .1)
       (ap (packetOf (noticeOf s)) same-field ∙ whole)
     where
@@ -224,6 +211,14 @@ module _ (s : List ℕ) (n : Notice) (e : readOf s ≡ given n) (bytes : Bytes s
           ∙ ap (λ (x : List ℕ). x ++ stuffing (163 - individualAddressingLength s)) (sym (take-add m 4 s) ∙ ap (λ (j : ℕ). take j s) count)
           ∙ ap (λ (x : List ℕ). take (25 + individualAddressingLength s) s ++ x) (sym rest)
           ∙ take-append-drop (25 + individualAddressingLength s) s
+
+  -- written into any output with room, they give it the packet that was read, and keep all bytes after it
+  pub read-written : (out : List ℕ) → 188 ≤ length out → drop (25 + individualAddressingLength s) s ≡ stuffing (163 - individualAddressingLength s)
+      → writeOf out n (addressingOf s) ≡ s ++ drop 188 out
+  unfolding writeOf
+  read-written out h rest =
+      kept-new _ out (packetOf n (addressingOf s) ++ drop 188 out) (rewrite-accepted (length out) h)
+      ∙ ap (λ (x : List ℕ). x ++ drop 188 out) (same-packet rest)
 
 -- ---- one bit
 

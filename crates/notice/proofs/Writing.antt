@@ -19,7 +19,7 @@ use Rattle.check_value.proofs.Sealing.{sealed-length}
 use Rattle.times.specs.Release.{inSecond}
 use Rattle.addressing.specs.Entries.{wellFormed}
 use Rattle.notice.specs.Long.{Writable}
-use Rattle.notice.specs.Writer.{writeRefusal, headOf, fieldsOf, stuffing, packetOf, keptBy, writeOf}
+use Rattle.notice.specs.Writer.{writeRefusal, headOf, fieldsOf, stuffing, packetOf}
 use Rattle.notice.specs.declared.Notice.{Notice}
 
 pub head-length : (n : Notice) (a : ℕ) → length (headOf n a) ≡ 21
@@ -83,22 +83,23 @@ packet-put n f d d₁ d₂ d₃ h p₁ p₂ p₃ =
     ∙ put-behind (sealed (fieldsOf n f)) (stuffing (163 - length f)) d (e + 4) l
     ∙ ap (λ (j : ℕ). sealed (fieldsOf n f) ++ stuffing (163 - length f) ++ drop j d) m
 
--- a write that no number refuses has room for all
-pub write-fits : (space : ℕ) (n : Notice) (f : List ℕ) → writeRefusal space n f ≡ 0 → Writable space n f
+-- what a write that no number refuses has passed
+pub judged : (space : ℕ) (n : Notice) (f : List ℕ) → writeRefusal space n f ≡ 0
+    → Writable space n f × (wellFormed f ≡ true) × (inSecond dvbSecond (n .sts .0) ≡ true) × (inSecond dvbSecond (n .md .0) ≡ true)
 unfolding writeRefusal
-write-fits space n f e =
+judged space n f e =
     let p₁ = passed (leb 188 space) _ _ e in
     let p₂ = passed (leb (n .continuity) 15) _ _ (p₁ .1) in
     let p₃ = passed (leb (n .reserved) 32767) _ _ (p₂ .1) in
     let p₄ = passed (leb (length f) 163) _ _ (p₃ .1) in
-    record { room = leb-true _ _ (p₁ .0); counter = leb-true _ _ (p₂ .0); bits = leb-true _ _ (p₃ .0); short = leb-true _ _ (p₄ .0) }
+    let p₅ = passed (wellFormed f) _ _ (p₄ .1) in
+    let p₆ = passed (inSecond dvbSecond (n .sts .0)) _ _ (p₅ .1) in
+    let p₇ = passed (inSecond dvbSecond (n .md .0)) _ _ (p₆ .1) in
+    (record { room = leb-true _ _ (p₁ .0); counter = leb-true _ _ (p₂ .0); bits = leb-true _ _ (p₃ .0); short = leb-true _ _ (p₄ .0) }, p₅ .0, p₆ .0, p₇ .0)
 
-pub kept-old : (n : ℕ) (old new : List ℕ) → (n ≡ 0 → ⊥) → keptBy n old new ≡ old
-kept-old zero old new h = absurd (h refl)
-kept-old (suc n) old new h = refl
-
-pub kept-new : (n : ℕ) (old new : List ℕ) → n ≡ 0 → keptBy n old new ≡ new
-kept-new n old new e = ap (λ (k : ℕ). keptBy k old new) e
+-- it has room for all
+pub write-fits : (space : ℕ) (n : Notice) (f : List ℕ) → writeRefusal space n f ≡ 0 → Writable space n f
+write-fits space n f e = judged space n f e .0
 
 -- the writer's last numbers, of what fits
 module _ (space : ℕ) (n : Notice) (f : List ℕ) (w : Writable space n f) where

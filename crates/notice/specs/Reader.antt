@@ -1,11 +1,11 @@
 -- What the reader answers: document 01's numbers 1, 2, 4 to 11, the first that applies, or the notice.
 -- Assumes nothing.
-use Prim.Native.Nat.{ℕ, zero, suc, _+_, _/_, _%_}
-use mathlib.Core.Bool.{Bool, cond}
+use Prim.Native.Nat.{ℕ, _+_}
+use mathlib.Core.Bool.{cond}
 use mathlib.Core.List.{List, []}
 use lib.ListN.{length, getD}
 use lib.Dec.{eqb, leb}
-use Rattle.wire.specs.Reply.{Reply, refused, given, must, orElse, reply}
+use Rattle.wire.specs.Reply.{Reply, refused, given, must, orElse, reply, keptBy}
 use Rattle.wire.specs.Standards.{packetLength, syncByte, mipPid, longestAddressing, dvbSecond}
 use Rattle.check_value.specs.Register.{register}
 use Rattle.times.specs.Release.{inSecond}
@@ -58,11 +58,6 @@ readingReply (Refused n) = refused n
 unfoldable pub addressingPart : List ℕ → List ℕ
 addressingPart s = cond (leb (21 + individualAddressingLength s) (length s)) (addressingField s) []
 
--- nothing where a number refuses
-abbrev pub unless : ℕ → List ℕ → List ℕ
-unless zero xs = xs
-unless (suc n) xs = []
-
--- the addressing field that the reader hands on: that of an accepted packet
+-- the addressing field that the reader hands on: that of an accepted packet, and nothing of any other
 unfoldable pub addressingOf : List ℕ → List ℕ
-addressingOf s = unless (readRefusal s) (addressingField s)
+addressingOf s = keptBy (readRefusal s) [] (addressingField s)

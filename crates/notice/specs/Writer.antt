@@ -1,11 +1,11 @@
 -- What the writer writes and answers: document 01's numbers 18, 19, 8, 10, 11, the first that applies, or the packet of TS 101 191 table 1.
 -- Assumes nothing.
-use Prim.Native.Nat.{ℕ, zero, suc, _+_, _-_, _*_}
-use mathlib.Core.Bool.{Bool, cond}
+use Prim.Native.Nat.{ℕ, _+_, _-_}
+use mathlib.Core.Bool.{cond}
 use mathlib.Core.List.{List, [], _∷_, _++_}
 use lib.ListN.{length, drop, replicate}
 use lib.Dec.{leb}
-use Rattle.wire.specs.Reply.{Reply, refused, given, must, reply}
+use Rattle.wire.specs.Reply.{Reply, refused, given, must, reply, keptBy}
 use Rattle.wire.specs.Standards.{packetLength, syncByte, mipPid, longestAddressing, dvbSecond}
 use Rattle.wire.specs.BigEndian.{byte0, byte1, byte2, byte3}
 use Rattle.check_value.specs.Register.{sealed}
@@ -56,10 +56,6 @@ unfoldable pub packetOf : Notice → List ℕ → List ℕ
 packetOf n field = sealed (fieldsOf n field) ++ stuffing (longestAddressing - length field)
 
 -- a number keeps the output; else the packet, and all bytes after it kept
-abbrev pub keptBy : ℕ → List ℕ → List ℕ → List ℕ
-keptBy zero old new = new
-keptBy (suc n) old new = old
-
 unfoldable pub writeOf : List ℕ → Notice → List ℕ → List ℕ
 writeOf out n field = keptBy (writeRefusal (length out) n field) out (packetOf n field ++ drop packetLength out)
 

@@ -32,12 +32,6 @@ pub enum Written {
     Refused(u8),
 }
 
-fn wide(x: u8) -> usize
-    ensures { λ r. ⌜ r ≡ x ⌝ }
-{
-    x as usize
-}
-
 // 1, 2, 4 or 5, or 0 for none.
 fn packet_refusal(p: &[u8]) -> u8
     ensures { λ r. ⌜ r ≡ packetRefusal (now (p .entry)) ⌝ }
@@ -93,7 +87,7 @@ fn body_refusal(p: &[u8]) -> u8
     requires { ⌜ Framed (now p) ⌝ }
     ensures { λ r. ⌜ r ≡ bodyRefusal (now (p .entry)) ⌝ }
 {
-    let a = wide(p[20]);
+    let a = wire::wide(p[20]);
     let end = 25 + a;
     let rest = check_value::register_of(&p[..end]);
     if rest != 0 {
@@ -172,7 +166,7 @@ pub fn addressing_part(p: &[u8]) -> &[u8]
     if p.len() < 21 {
         return &p[..0];
     }
-    let end = 21 + wide(p[20]);
+    let end = 21 + wire::wide(p[20]);
     if p.len() < end {
         return &p[..0];
     }

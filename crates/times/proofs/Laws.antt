@@ -10,10 +10,11 @@ use lib.Dec.{T, ltb}
 use lib.IntN.{ℤ, pos, negsuc, natAbs, _+ℤ_}
 use lib.Signed.{ltZ}
 use Rattle.wire.specs.Reply.{given}
+use Rattle.wire.specs.Standards.{dvbSecond, a110Second}
 use Rattle.times.specs.Whole.{plus, residue}
-use Rattle.times.specs.Release.{wrap, reference, emission, modulation, linkDelay, wait, late, delayFits, Times, waitOf, timesOf, releaseOf}
-use Rattle.times.proofs.Whole.{natural, sum, plus-is, congruent, differ, residue-only}
-use Rattle.times.proofs.Formulas.{wrap-most, wrap-residue, modulation-most, modulation-residue, link-residue, delay-least, delay-less, delay-whole, sum-apart, wait-is, late-is}
+use Rattle.times.specs.Release.{wrap, reference, emission, modulation, linkDelay, wait, late, delayFits, Times, waitOf, timesOf, releaseOf, dvbRelease, a110Release}
+use Rattle.times.proofs.Whole.{up, down, Diff, natural, sum, plus-is, congruent, differ, residue-only}
+use Rattle.times.proofs.Formulas.{wrap-most, wrap-residue, modulation-most, modulation-residue, link-residue, delay-least, delay-less, delay-whole, sum-apart, wait-is, late-is, fits-a110}
 use Rattle.times.proofs.Answers.{Passed, released}
 
 -- ---- ranges
@@ -52,6 +53,14 @@ module _ (u sts md : ℕ) (od : ℤ) (fits : delayFits u md od ≡ true) where
       (congruent u _ _ (m / u + e / u + x / u + arrival / u) (m % u / u + (m + tad) / u + e / u + (l + sts) / u)
       (omega (arith, plus-is (sts + md) od, delay-least u md od fits)))
 
+  -- ---- a wait that is not late is at most MD + OD
+  pub wait-less : (tad arrival : ℕ) → late (waitOf u sts md od tad arrival) ≡ false → natAbs (waitOf u sts md od tad arrival) < u
+  wait-less tad arrival = at-most (linkDelay u arrival sts) (waitOf u sts md od tad arrival) (wait-is md od tad (linkDelay u arrival sts))
+    where
+      at-most : (b : ℕ) (z : ℤ) → Diff z (md + up od + 0 + 0) (0 + down od + tad + b) → late z ≡ false → natAbs z < u
+      at-most b (pos k) d e = omega (arith, d .is, plus-is md od, delay-least u md od fits, delay-less u md od fits)
+      at-most b (negsuc k) d e = absurd (subst T e tt)
+
   -- ---- late exactly when MD + OD is over before the link delay and TAD are
   pub late-after : (tad link : ℕ) → late (wait md od tad link) ≡ ltb (plus md od) (tad + link)
   late-after tad link = late-is md od tad link ∙ ap (λ (z : ℤ). ltZ z (pos (tad + link))) (sym (delay-whole u md od fits))
@@ -78,12 +87,41 @@ module _
           let k = has .limits-kept in
           subst (InRange u) (has .times-are) (times-range u sts md od (holds (k .fit)) tad arrival (k .sts-less) (k .md-less))
 
+      -- the wait is less than a second: it is at most MD + OD
+      pub released-wait : natAbs (t .wait) < u
+      released-wait =
+          let k = has .limits-kept in
+          subst (λ (x : Times). natAbs (x .wait) < u) (has .times-are)
+          (wait-less u sts md od (holds (k .fit)) tad arrival (has .in-time))
+
       -- held for its wait from the arrival tick on, the mark ends at its modulation time, modulo u
       pub released-ends : (arrival + natAbs (t .wait)) % u ≡ t .modulation % u
       released-ends =
           subst (λ (x : Times). (arrival + natAbs (x .wait)) % u ≡ x .modulation % u) (has .times-are)
           (sym (ap (λ (z : ℤ). residue u (pos arrival +ℤ z)) (in-time (waitOf u sts md od tad arrival) (has .in-time)))
           ∙ wait-ends u sts md od (holds (has .limits-kept .fit)) tad arrival (has .limits-kept .tad-less))
+
+-- ---- of both profiles
+module _ (sts md : ℕ) (od : ℤ) (tad arrival : ℕ) (t : Times) where
+  module _ (answer : dvbRelease sts md od tad arrival ≡ given (given t)) where
+    pub dvb-range : InRange dvbSecond t
+    dvb-range = released-range dvbSecond _ sts md od tad arrival t answer (λ e. e)
+
+    pub dvb-wait : natAbs (t .wait) < dvbSecond
+    dvb-wait = released-wait dvbSecond _ sts md od tad arrival t answer (λ e. e)
+
+    pub dvb-ends : (arrival + natAbs (t .wait)) % dvbSecond ≡ t .modulation % dvbSecond
+    dvb-ends = released-ends dvbSecond _ sts md od tad arrival t answer (λ e. e)
+
+  module _ (answer : a110Release sts md od tad arrival ≡ given (given t)) where
+    pub a110-range : InRange a110Second t
+    a110-range = released-range a110Second _ sts md od tad arrival t answer (fits-a110 a110Second md od tad)
+
+    pub a110-wait : natAbs (t .wait) < a110Second
+    a110-wait = released-wait a110Second _ sts md od tad arrival t answer (fits-a110 a110Second md od tad)
+
+    pub a110-ends : (arrival + natAbs (t .wait)) % a110Second ≡ t .modulation % a110Second
+    a110-ends = released-ends a110Second _ sts md od tad arrival t answer (fits-a110 a110Second md od tad)
 
 -- two sites that release a mark of one STS and MD give it one reference time
 pub one-reference :

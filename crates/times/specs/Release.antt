@@ -1,5 +1,5 @@
 -- The times of a release for a second of u units, and the limits that they keep.
--- Document 01, "Two clocks" and "Release", refusals 3, 11, 13, 14 and 15; A/110 6.4.5.
+-- Document 01, "Two clocks" and "Release", refusals 3, 11, 13, 14 and 15; A/110 6.4.2 and 6.4.5.
 -- Assumes nothing.
 use mathlib.Core.Bool.{Bool, cond, not, _&&_}
 use Prim.Native.Nat.{ℕ, _+_, _-_}

@@ -6,7 +6,7 @@ use Prim.Native.Nat.{ℕ, zero, suc}
 use native.Mathlib.Omega.{arith}
 use borrow.Author.Needs.{needs}
 use borrow.Author.Tests.{eq-eqb, ne-eqb, lt-ltb, le-ltb, le-leb, lt-leb}
-use Rattle.wire.specs.Reply.{Reply, refused, given, must, orElse, reply, numberOf}
+use Rattle.wire.specs.Reply.{Reply, refused, given, must, orElse, reply, numberOf, keptBy}
 
 -- a return out of a chain: each test on the way is rewritten by the branch that the code took
 pub ruleset tests = (needs, eq-eqb, ne-eqb, lt-ltb, le-ltb, le-leb, lt-leb)
@@ -15,12 +15,6 @@ pub ruleset tests = (needs, eq-eqb, ne-eqb, lt-ltb, le-ltb, le-leb, lt-leb)
 pub passed : (b : Bool) (n rest : ℕ) → must b (suc n) rest ≡ 0 → (b ≡ true) × (rest ≡ 0)
 passed true n rest e = (refl, e)
 passed false n rest e = absurd (omega arith)
-
-pub must-true : (b : Bool) (n rest : ℕ) → b ≡ true → must b n rest ≡ rest
-must-true b n rest e = ap (λ (t : Bool). must t n rest) e
-
-pub must-false : (b : Bool) (n rest : ℕ) → b ≡ false → must b n rest ≡ n
-must-false b n rest e = ap (λ (t : Bool). must t n rest) e
 
 -- where the first stage gives 0 the second decides, else the first
 pub else-second : (m n : ℕ) → m ≡ 0 → orElse m n ≡ n
@@ -51,3 +45,11 @@ given-zero (suc n) a b e = let z : _≡_ {A = ℕ} 0 1 = cc in absurd (omega ari
 pub number-reply : {A : Type 0} (n : ℕ) (a : A) → numberOf (reply n a) ≡ n
 number-reply zero a = refl
 number-reply (suc n) a = refl
+
+-- a number keeps the old
+pub kept-old : {A : Type 0} (n : ℕ) (old new : A) → (n ≡ 0 → ⊥) → keptBy n old new ≡ old
+kept-old zero old new h = absurd (h refl)
+kept-old (suc n) old new h = refl
+
+pub kept-new : {A : Type 0} (n : ℕ) (old new : A) → n ≡ 0 → keptBy n old new ≡ new
+kept-new n old new e = ap (λ (k : ℕ). keptBy k old new) e

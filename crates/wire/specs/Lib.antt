@@ -2,3 +2,4 @@ pub mod Reply
 pub mod Standards
 pub mod BigEndian
 pub mod Signed
+pub mod Put

@@ -26,3 +26,8 @@ reply (suc n) a = refused (suc n)
 abbrev pub numberOf : {A : Type 0} → Reply A → ℕ
 numberOf (refused n) = n
 numberOf (given a) = 0
+
+-- a number keeps the old, 0 lets the new stand
+abbrev pub keptBy : {A : Type 0} → ℕ → A → A → A
+keptBy zero old new = new
+keptBy (suc n) old new = old

@@ -1,10 +1,8 @@
 // Big-endian numbers, two's complement, and bytes put into a lent buffer: what every format here is made of.
 ghost use mathlib.Core.Path.{_≡_};
-ghost use mathlib.Core.List.{_++_};
-ghost use Prim.Native.Nat.{_+_, _≤_};
-ghost use lib.ListN.{length, take, drop};
 ghost use Rattle.wire.specs.BigEndian.{be16, be24, be32, byte0, byte1, byte2, byte3};
 ghost use Rattle.wire.specs.Signed.{signed16, signed24};
+ghost use Rattle.wire.specs.Put.{putAt};
 
 // The number that two bytes spell.
 pub fn number16(a: u8, b: u8) -> u16
@@ -78,12 +76,23 @@ pub fn signed_24(a: u8, b: u8, c: u8) -> i32
     -1 - (w as i32)
 }
 
-// Puts all of src into dst from byte `at` on.
-// A helper of the crates above, and no call of the product: its callers see to the room.
-pub fn put(dst: &mut [u8], at: usize, src: &[u8])
-    requires { ⌜ at + length (now src) ≤ length (now dst) ⌝ }
-    ensures { λ _. ⌜ now (dst .exit) ≡ take at (now (dst .entry)) ++ now (src .entry) ++ drop (at + length (now (src .entry))) (now (dst .entry)) ⌝ }
+// A byte as a length or an index.
+pub fn wide(x: u8) -> usize
+    ensures { λ r. ⌜ r ≡ x ⌝ }
 {
+    x as usize
+}
+
+// Puts all of src into dst from byte `at` on; puts nothing where src does not fit.
+pub fn put(dst: &mut [u8], at: usize, src: &[u8])
+    ensures { λ _. ⌜ now (dst .exit) ≡ putAt (now (dst .entry)) at (now (src .entry)) ⌝ }
+{
+    if dst.len() < at {
+        return;
+    }
+    if dst.len() - at < src.len() {
+        return;
+    }
     let mut i = 0;
     while i < src.len() {
         dst[at + i] = src[i];

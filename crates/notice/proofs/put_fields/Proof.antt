@@ -1,7 +1,9 @@
 -- `notice::put_fields` meets its contract.
 -- Assumes nothing.
 use borrow.Author.Needs.{needs}
+use mathlib.Core.Path.{_∙_}
 use denote.Ref.{now}
+use Rattle.wire.proofs.Puts.{put-fits}
 use Rattle.notice.proofs.Writing.{fields-put}
 use Rattle.notice.proofs.put_fields.Statement.{statement}
 use Rattle.notice.proofs.put_fields.Tie as tie
@@ -27,7 +29,7 @@ same-length c = search needs
 returns : tie.Need-returns
 returns c =
     let a = c .before .before .before .before .before .before .before .before .before .before .before .before .args in
-    fields-put (a .n) (now (a .field)) (now (a .out)) (c .before .before .before .before .before .before .put .last .0) (c .before .before .put2 .last .0) (c .before .before .before .before .before .before .before .before .before .head-of .result) (c .before .before .before .before .before .before .before .before .before .head-of .ensures) (c .before .before .before .before .before .before .put .ensures) (c .before .before .put2 .ensures)
+    fields-put (a .n) (now (a .field)) (now (a .out)) (c .before .before .before .before .before .before .put .last .0) (c .before .before .put2 .last .0) (c .before .before .before .before .before .before .before .before .before .head-of .result) (c .before .before .before .before .before .before .before .before .before .head-of .ensures) (c .before .before .before .before .before .before .put .ensures ∙ put-fits _ _ _ (search needs)) (c .before .before .put2 .ensures ∙ put-fits _ _ _ (search needs))
 
 pub put-fields-spec : {M : Type 1} → statement M
 put-fields-spec =

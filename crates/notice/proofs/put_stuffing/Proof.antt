@@ -1,9 +1,10 @@
 -- `notice::put_stuffing` meets its contract.
 -- Assumes nothing.
 use borrow.Author.Needs.{needs}
-use mathlib.Core.Path.{sym}
+use mathlib.Core.Path.{sym, _∙_}
 use native.Mathlib.Omega.{arith}
 use denote.Ref.{now}
+use Rattle.wire.proofs.Puts.{put-fits}
 use Rattle.notice.proofs.Writing.{stuffing-length, stuffing-put}
 use Rattle.notice.proofs.put_stuffing.Statement.{statement}
 use Rattle.notice.proofs.put_stuffing.Tie as tie
@@ -18,7 +19,7 @@ slice-aggregate-put : tie.Need-slice-aggregate-put
 slice-aggregate-put c = sym (stuffing-length (c .before .before .before .args .from) (omega arith))
 
 put-requires : tie.Need-put-requires
-put-requires c κs = omega (arith, stuffing-length (c .before .before .before .args .from) (omega arith))
+put-requires c κs = search needs
 
 same-length : tie.Need-same-length
 same-length c = search needs
@@ -26,7 +27,7 @@ same-length c = search needs
 returns : tie.Need-returns
 returns c =
     let a = c .before .before .before .before .before .before .args in
-    stuffing-put (now (a .out)) (c .before .before .put .last .0) (a .from) (omega arith) (omega arith) (c .before .before .put .ensures)
+    stuffing-put (now (a .out)) (c .before .before .put .last .0) (a .from) (omega arith) (omega arith) (c .before .before .put .ensures ∙ put-fits _ _ _ (omega (arith, stuffing-length (a .from) (omega arith))))
 
 pub put-stuffing-spec : {M : Type 1} → statement M
 put-stuffing-spec =

@@ -5,10 +5,11 @@ use mathlib.Core.Path.{_≡_, sym, ap, _∙_}
 use native.Mathlib.Omega.{arith}
 use lib.ListN.{length}
 use denote.Ref.{now}
+use Rattle.check_value.proofs.Sealing.{seal-fits}
 use Rattle.notice.specs.Writer.{writeOf, writeReply}
 use Rattle.wire.specs.Reply.{refused}
-use Rattle.wire.proofs.Tests.{reply-refuses, reply-gives}
-use Rattle.notice.proofs.Writing.{write-fits, packet-put, kept-old, kept-new}
+use Rattle.wire.proofs.Tests.{reply-refuses, reply-gives, kept-old, kept-new}
+use Rattle.notice.proofs.Writing.{write-fits, packet-put}
 use Rattle.notice.proofs.write_notice.Statement.{statement}
 use Rattle.notice.proofs.write_notice.Tie as tie
 
@@ -26,10 +27,7 @@ put-fields-requires : tie.Need-put-fields-requires
 put-fields-requires c κs = write-fits _ _ _ (sym (c .before .before .write-refusal .ensures) ∙ c .before .if1 .left)
 
 seal-requires : tie.Need-seal-requires
-seal-requires c κs =
-    let a = c .before .before .before .before .before .before .before .before .before .args in
-    let fits = write-fits (length (now (a .out))) (a .n) (now (a .field)) (sym (c .before .before .before .before .before .before .write-refusal .ensures) ∙ c .before .before .before .before .before .if1 .left) in
-    omega (arith, c .before .before .before .put-fields .kept .0)
+seal-requires c κs = search needs
 
 add-put-stuffing : tie.Need-add-put-stuffing
 add-put-stuffing c = search needs
@@ -50,7 +48,7 @@ returns-2 c =
     let none = sym (c .before .before .before .before .before .before .before .before .before .before .before .before .before .write-refusal .ensures) ∙ c .before .before .before .before .before .before .before .before .before .before .before .before .if1 .left in (
       sym (reply-gives _ _ none),
       packet-put (a .n) (now (a .field)) (now (a .out)) (c .before .before .before .before .before .before .before .before .before .before .put-fields .last .0) (c .before .before .before .before .before .before .seal .last .0) (c .before .before .put-stuffing .last .0) (write-fits (length (now (a .out))) (a .n) (now (a .field)) none .short)
-          (c .before .before .before .before .before .before .before .before .before .before .put-fields .ensures) (c .before .before .before .before .before .before .seal .ensures) (c .before .before .put-stuffing .ensures) ∙ sym (kept-new _ _ _ none),
+          (c .before .before .before .before .before .before .before .before .before .before .put-fields .ensures) (c .before .before .before .before .before .before .seal .ensures ∙ seal-fits _ _ (let fits = write-fits (length (now (a .out))) (a .n) (now (a .field)) none in omega (arith, c .before .before .before .before .before .before .before .before .before .before .put-fields .kept .0))) (c .before .before .put-stuffing .ensures) ∙ sym (kept-new _ _ _ none),
     )
 
 pub write-notice-spec : {M : Type 1} → statement M
