@@ -1,10 +1,10 @@
 // The ground's calls for programs in other languages, so that another implementation can be compared with them and speed can be measured.
 // For tests: it is no part of what a board links.
+pub mod slaves;
+
 use addressing::Settings;
 use addressing::Walked;
 use cadence::Answer;
-use cadence::CodeRate;
-use cadence::Constellation;
 use notice::Notice;
 use notice::Reading;
 use notice::Written;
@@ -13,15 +13,13 @@ use times::DvbRelease;
 use times::Periods;
 use times::Steps;
 ghost use mathlib.Core.Path.{_≡_};
-ghost use mathlib.Core.Bool.{Bool, cond};
-ghost use Prim.Native.Nat.{ℕ};
 ghost use lib.ListN.{length};
 ghost use Rattle.wire.specs.Standards.{dvbSecond, a110Second};
 ghost use Rattle.check_value.specs.Register.{register};
 ghost use Rattle.times.specs.Release.{delayFits, delayFitsA110, dvbRelease, a110Release};
-ghost use Rattle.addressing.specs.Entries.{settingsOf, wellFormed};
+ghost use Rattle.addressing.specs.Entries.{settingsOf};
 ghost use Rattle.cadence.specs.Cadence.{admits};
-ghost use Rattle.cadence.specs.Label.{labelOf, pointerOf, within};
+ghost use Rattle.cadence.specs.Label.{labelOf, within};
 ghost use Rattle.cadence.specs.MobileFrame.{mobilePlace};
 ghost use Rattle.notice.specs.Reader.{readOf, addressingPart};
 ghost use Rattle.notice.specs.Writer.{writeRefusal, writeOf};

@@ -1,18 +1,21 @@
 -- The reckoned examples of document 01, each with what the definitions give for it and what the paper says.
 -- Assumes nothing.
 use Prim.Native.Nat.{ℕ}
-use mathlib.Core.Bool.{Bool, true, false, cond, _&&_}
+use mathlib.Core.Bool.{Bool, true, false, _&&_}
 use mathlib.Core.List.{List, [], _∷_}
 use lib.Dec.{eqb}
 use lib.IntN.{ℤ, pos, negsuc}
+use Rattle.wire.specs.Reply.{numberOf}
 use Rattle.wire.specs.Standards.{dvbSecond, a110Second}
 use Rattle.check_value.specs.Register.{register}
-use Rattle.times.specs.Release.{emission, modulation, late, waitOf}
+use Rattle.times.specs.Release.{emission, modulation, waitOf, markOf}
 use Rattle.cadence.specs.Cadence.{lengthOf}
 use Rattle.cadence.specs.Label.{labelOf}
 use Rattle.cadence.specs.MobileFrame.{mobilePlace}
 use Rattle.cadence.specs.declared.Constellation.the-variants.{Qam64}
 use Rattle.cadence.specs.declared.CodeRate.the-variants.{SevenEighths}
+use Rattle.slave.specs.Gap.{gapped}
+use Rattle.slave.specs.declared.Slave.{Slave}
 
 -- an example's number, the values that the definitions give, and those that the paper says
 pub record Example : Type 0 where
@@ -23,9 +26,10 @@ pub record Example : Type 0 where
 abbrev pub example : ℕ → List ℤ → List ℤ → Example
 example k g s = record { number = k; given = g; said = s }
 
--- yes is 1, no is 0
-abbrev pub truth : Bool → ℤ
-truth b = cond b (pos 1) (pos 0)
+-- a locked slave of profile 0 before the mark, with a pending notice
+abbrev pub pending : Slave
+pending =
+    record { phase = 2; profile = 0; n = 2016; site = 7; tad = 0; od = pos 0; frequency = pos 0; power = 0; next = 2010; pending = 1; index = 255; sts = 9_500_000; md = 700_000 }
 
 unfoldable pub table : List Example
 table =
@@ -37,10 +41,10 @@ table =
     ∷ example 2
     (waitOf dvbSecond 9_500_000 700_000 (pos 0) 0 200_000 ∷ [])
     (pos 0 ∷ [])
-    -- arrival 200,001: late, where 200,000 was not
+    -- arrival 200,001: late, 14, where 200,000 was not
     ∷ example 3
-    (truth (late (waitOf dvbSecond 9_500_000 700_000 (pos 0) 0 200_001)) ∷ truth (late (waitOf dvbSecond 9_500_000 700_000 (pos 0) 0 200_000)) ∷ [])
-    (pos 1 ∷ pos 0 ∷ [])
+    (pos (numberOf (markOf dvbSecond 9_500_000 700_000 (pos 0) 0 200_001)) ∷ pos (numberOf (markOf dvbSecond 9_500_000 700_000 (pos 0) 0 200_000)) ∷ [])
+    (pos 14 ∷ pos 0 ∷ [])
     -- STS 9,300,000, MD 700,000, OD 0: emission
     ∷ example 4
     (pos (emission dvbSecond 9_300_000 700_000 (pos 0)) ∷ [])
@@ -57,6 +61,10 @@ table =
     ∷ example 7
     (pos (labelOf 2016 0) ∷ pos (labelOf 2016 2015) ∷ [])
     (pos 2015 ∷ pos 0 ∷ [])
+    -- n 2016, next label 2010, a pending notice; gaps of 6 and 7: next label and pending
+    ∷ example 8
+    (pos (gapped pending 6 .next) ∷ pos (gapped pending 6 .pending) ∷ pos (gapped pending 7 .next) ∷ pos (gapped pending 7 .pending) ∷ [])
+    (pos 0 ∷ pos 1 ∷ pos 1 ∷ pos 0 ∷ [])
     -- 64-QAM 7/8: n
     ∷ example 9
     (pos (lengthOf Qam64 SevenEighths) ∷ [])

@@ -1,0 +1,75 @@
+-- `probe::slaves::mark_of` meets its contract.
+-- Assumes nothing.
+use borrow.Author.Needs.{needs}
+use mathlib.Core.Path.{_≡_, sym, ap, _∙_}
+use mir.Syntax.{w64}
+use mir.Val.{toZ, ofZ}
+use Rattle.slave.specs.Answer.{markOf}
+use Rattle.slave.specs.declared.MarkPart.{MarkPart}
+use Rattle.probe.specs.Slaves.{flatMark}
+use Rattle.probe.proofs.Wait.{same-times}
+use Rattle.probe.proofs.slaves.mark_of.Statement.{statement}
+use Rattle.probe.proofs.slaves.mark_of.Tie as tie
+
+enum-told : tie.Need-enum-told
+enum-told c = search needs
+
+no-times-requires : tie.Need-no-times-requires
+no-times-requires c κs = search needs
+
+enum-told-2 : tie.Need-enum-told-2
+enum-told-2 c = search needs
+
+no-times-requires-2 : tie.Need-no-times-requires-2
+no-times-requires-2 c κs = search needs
+
+enum-told-3 : tie.Need-enum-told-3
+enum-told-3 c = search needs
+
+no-times-requires-3 : tie.Need-no-times-requires-3
+no-times-requires-3 c κs = search needs
+
+enum-known-m : tie.Need-enum-known-m
+enum-known-m c = search needs
+
+enum-known-m-2 : tie.Need-enum-known-m-2
+enum-known-m-2 c = search needs
+
+returns : tie.Need-returns
+returns c = c .no-times .ensures ∙ sym (ap (λ (r : MarkPart). flatMark (markOf r)) (c .before .enum-told .given .1))
+
+returns-2 : tie.Need-returns-2
+returns-2 c = c .no-times2 .ensures ∙ sym (ap (λ (r : MarkPart). flatMark (markOf r)) (c .before .enum-told2 .given .1))
+
+returns-3 : tie.Need-returns-3
+returns-3 c = c .no-times3 .ensures ∙ sym (ap (λ (r : MarkPart). flatMark (markOf r)) (c .before .enum-told3 .given .1))
+
+returns-4 : tie.Need-returns-4
+returns-4 c =
+    let t = c .before .before .before .before .before .m .given in
+    let w : toZ w64 (ofZ w64 (t .0 .0 .wait)) ≡ t .0 .0 .wait = search needs in
+    same-times w ∙ sym (ap (λ (r : MarkPart). flatMark (markOf r)) (t .1))
+
+returns-5 : tie.Need-returns-5
+returns-5 c =
+    let t = c .before .before .before .before .before .m2 .given in
+    let w : toZ w64 (ofZ w64 (t .0 .0 .wait)) ≡ t .0 .0 .wait = search needs in
+    same-times w ∙ sym (ap (λ (r : MarkPart). flatMark (markOf r)) (t .1))
+
+pub mark-of-spec : {M : Type 1} → statement M
+mark-of-spec =
+    tie.close
+    (tie.spec
+    enum-told
+    no-times-requires
+    enum-told-2
+    no-times-requires-2
+    enum-told-3
+    no-times-requires-3
+    enum-known-m
+    enum-known-m-2
+    returns
+    returns-2
+    returns-3
+    returns-4
+    returns-5)

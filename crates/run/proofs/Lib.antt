@@ -1,0 +1,9 @@
+pub mod Tests
+pub mod Congruence
+pub mod Entries
+pub mod Judging
+pub mod Sound
+pub mod Follow
+pub mod Steps
+pub mod Run
+pub mod Examples

@@ -1,0 +1,4 @@
+pub mod Adapter
+pub mod Book
+pub mod Run
+pub mod Claim

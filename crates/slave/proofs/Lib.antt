@@ -1,0 +1,9 @@
+pub mod Profiles
+pub mod Bounds
+pub mod GapWays
+pub mod Parts
+pub mod Ways
+pub mod Pointing
+pub mod Judging
+pub mod Calling
+pub mod Walk

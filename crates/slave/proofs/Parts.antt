@@ -1,0 +1,71 @@
+-- What a sound slave's parts satisfy.
+-- Assumes nothing.
+use mathlib.Core.Path.{_≡_, refl, sym, ap, _∙_, subst}
+use mathlib.Core.Bool.{Bool, true, false, cond, _&&_}
+use Prim.Native.Nat.{ℕ, _<_, _≤_}
+use native.Mathlib.Omega.{arith}
+use lib.Dec.{eqb, ltb}
+use borrow.Author.Tests.{eqb-true, eqb-false, eq-eqb, ne-eqb, ltb-true}
+use Rattle.times.specs.Release.{inSecond}
+use Rattle.cadence.specs.Cadence.{admits}
+use Rattle.cadence.proofs.Lengths.{admitted-range}
+use Rattle.slave.specs.Sound.{second, isZero, frequencyFits, indexFits, pendingFits, settingsKept, huntingFits, lockedFits, sound}
+use Rattle.slave.specs.declared.Slave.{Slave}
+
+-- both sides of a conjunction
+pub both : (a b : Bool) → (a && b) ≡ true → (a ≡ true) × (b ≡ true)
+both true b e = (refl, e)
+both false b e = (e, cc)
+
+module _ (s : Slave) (k : sound s ≡ true) where
+  pub settings-hold : settingsKept (s .profile) (s .n) (s .site) (s .tad) ≡ true
+  unfolding sound
+  settings-hold = both (settingsKept (s .profile) (s .n) (s .site) (s .tad)) _ k .0
+
+  pub admitted : admits (s .profile) (s .n) ≡ true
+  unfolding settingsKept
+  admitted = both _ _ (both _ _ settings-hold .0) .0
+
+  pub cadence-range : (624 ≤ s .n) × (s .n ≤ 10_584)
+  cadence-range = admitted-range (s .profile) (s .n) admitted
+
+  -- the two phases
+  phase-holds : cond (eqb (s .phase) 1) (huntingFits s) (eqb (s .phase) 2 && lockedFits s) ≡ true
+  unfolding sound
+  phase-holds = both (settingsKept (s .profile) (s .n) (s .site) (s .tad)) _ k .1
+
+  pub hunts : s .phase ≡ 1 → huntingFits s ≡ true
+  hunts e = rw (eq-eqb (s .phase) 1 e) at phase-holds
+
+  pub locked : (s .phase ≡ 1 → ⊥) → (s .phase ≡ 2) × (lockedFits s ≡ true)
+  locked h =
+      let q = both (eqb (s .phase) 2) (lockedFits s) (rw (ne-eqb (s .phase) 1 h) at phase-holds) in
+      (eqb-true (s .phase) 2 (q .0), q .1)
+
+  -- a hunting slave's count is 0
+  hunting-next : huntingFits s ≡ true → s .next ≡ 0
+  unfolding huntingFits
+  hunting-next h =
+      let a : Bool = isZero (s .od) && isZero (s .frequency) && eqb (s .power) 0 in
+      let h₁ = both (a && eqb (s .next) 0 && eqb (s .pending) 0 && eqb (s .index) 255 && eqb (s .sts) 0) (eqb (s .md) 0) h .0 in
+      let h₂ = both (a && eqb (s .next) 0 && eqb (s .pending) 0 && eqb (s .index) 255) (eqb (s .sts) 0) h₁ .0 in
+      let h₃ = both (a && eqb (s .next) 0 && eqb (s .pending) 0) (eqb (s .index) 255) h₂ .0 in
+      let h₄ = both (a && eqb (s .next) 0) (eqb (s .pending) 0) h₃ .0 in
+      eqb-true (s .next) 0 (both a (eqb (s .next) 0) h₄ .1)
+
+  locked-next : lockedFits s ≡ true → s .next < s .n
+  unfolding lockedFits
+  locked-next h =
+      let f : Bool = frequencyFits (s .frequency) in
+      let h₁ = both (f && ltb (s .next) (s .n) && indexFits (s .profile) (s .index)) (pendingFits s) h .0 in
+      let h₂ = both (f && ltb (s .next) (s .n)) (indexFits (s .profile) (s .index)) h₁ .0 in
+      ltb-true (s .next) (s .n) (both f (ltb (s .next) (s .n)) h₂ .1)
+
+  pub next-below : s .next < s .n
+  next-below = go (eqb (s .phase) 1) refl
+    where
+      go : (t : Bool) → eqb (s .phase) 1 ≡ t → s .next < s .n
+      go true e =
+          let z : s .next ≡ 0 = hunting-next (hunts (eqb-true (s .phase) 1 e)) in
+          omega (arith, cadence-range)
+      go false e = locked-next (locked (eqb-false (s .phase) 1 e) .1)

@@ -1,0 +1,14 @@
+-- `slave::judge::index_allowed` meets its contract.
+-- Assumes nothing.
+use Rattle.wire.proofs.Tests.{tests}
+use Rattle.slave.proofs.judge.index_allowed.Statement.{statement}
+use Rattle.slave.proofs.judge.index_allowed.Tie as tie
+
+returns : tie.Need-returns
+returns c = search tests
+
+returns-2 : tie.Need-returns-2
+returns-2 c = search tests
+
+pub index-allowed-spec : {M : Type 1} → statement M
+index-allowed-spec = tie.close (tie.spec returns returns-2)

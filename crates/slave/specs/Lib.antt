@@ -1,0 +1,7 @@
+pub mod Sound
+pub mod Answer
+pub mod Judge
+pub mod Pointed
+pub mod Step
+pub mod Gap
+pub mod Calls

@@ -1,0 +1,272 @@
+// The slave: it follows the cadence, takes notices and places marks in time (document 01, "Steps of a slave").
+use addressing::Settings;
+use times::A110Times;
+use times::DvbTimes;
+ghost use mathlib.Core.Path.{_≡_};
+ghost use Rattle.slave.specs.Sound.{cold, hunting};
+ghost use Rattle.slave.specs.Answer.{answerOf, outcomeOf};
+ghost use Rattle.slave.specs.Calls.{boardOf, inForce, startOf, packetOf, numbersOf, gapOf};
+
+// A slave's parts are those of the saved body. TAD, STS and MD are in the profile's own unit.
+#[repr(C)]
+pub struct Slave {
+    pub phase: u8,
+    pub profile: u8,
+    pub n: u16,
+    pub site: u16,
+    pub tad: u32,
+    pub od: i16,
+    pub frequency: i32,
+    pub power: u16,
+    pub next: u16,
+    pub pending: u8,
+    pub index: u8,
+    pub sts: u32,
+    pub md: u32,
+}
+
+// The settings of a start.
+pub struct Board {
+    pub profile: u8,
+    pub n: u16,
+    pub site: u16,
+    pub tad: u32,
+}
+
+// What a notice that is taken gives.
+pub struct Taken {
+    pub pointer: u16,
+    pub sts: u32,
+    pub md: u32,
+    pub settings: Settings,
+    pub index: u8,
+}
+
+// How a packet was judged: a number of K, no notice, a number of C, or a notice to take.
+pub enum Judged {
+    Refuse(u8),
+    Plain,
+    Ignore(u8),
+    Take(Taken),
+}
+
+// A label or a place.
+pub enum Maybe {
+    Nothing,
+    Just(u16),
+}
+
+// The notice's part of a reply.
+pub enum NoticePart {
+    Absent,
+    Taken,
+    Slip,
+    Ignored(u8),
+}
+
+// The mark's part of a reply, in the profile's own unit.
+pub enum MarkPart {
+    Unmarked,
+    Untimed,
+    Late,
+    Dvb(DvbTimes),
+    A110(A110Times),
+}
+
+// The reply to a counted packet.
+pub struct Counted {
+    pub label: Maybe,
+    pub notice: NoticePart,
+    pub turn: bool,
+    pub mark: MarkPart,
+    pub place: Maybe,
+}
+
+// The reply to a packet or a numbers notice.
+pub enum Answer {
+    Refused(u8),
+    Counted(Counted),
+}
+
+// What a packet or a numbers notice leaves and replies.
+pub struct Stepped {
+    pub slave: Slave,
+    pub answer: Answer,
+}
+
+// The reply to a start or a gap.
+pub enum Outcome {
+    Done,
+    Refused(u8),
+}
+
+// What a start or a gap leaves and replies.
+pub struct Shifted {
+    pub slave: Slave,
+    pub outcome: Outcome,
+}
+
+mod gaps;
+mod judge;
+mod limits;
+mod soundness;
+mod steps;
+
+// The cold slave.
+fn cold_slave() -> Slave
+    ensures { λ r. ⌜ r ≡ cold ⌝ }
+{
+    Slave {
+        phase: 0,
+        profile: 0,
+        n: 0,
+        site: 0,
+        tad: 0,
+        od: 0,
+        frequency: 0,
+        power: 0,
+        next: 0,
+        pending: 0,
+        index: 255,
+        sts: 0,
+        md: 0,
+    }
+}
+
+// A hunting slave.
+fn hunting_slave(profile: u8, n: u16, site: u16, tad: u32) -> Slave
+    ensures { λ r. ⌜ r ≡ hunting profile n site tad ⌝ }
+{
+    Slave {
+        phase: 1,
+        profile: profile,
+        n: n,
+        site: site,
+        tad: tad,
+        od: 0,
+        frequency: 0,
+        power: 0,
+        next: 0,
+        pending: 0,
+        index: 255,
+        sts: 0,
+        md: 0,
+    }
+}
+
+// Starts a slave. 15 outside the limits, and the cold slave.
+pub fn start(profile: u8, n: u16, site: u16, tad: u32) -> Shifted
+    ensures { λ r. ⌜ (r .slave ≡ startOf profile n site tad .slave) × (outcomeOf (r .outcome) ≡ startOf profile n site tad .reply) ⌝ }
+{
+    if soundness::settings_kept(profile, n, site, tad) {
+        return Shifted {
+            slave: hunting_slave(profile, n, site, tad),
+            outcome: Outcome::Done,
+        };
+    }
+    Shifted {
+        slave: cold_slave(),
+        outcome: Outcome::Refused(15),
+    }
+}
+
+// k packets are known to be missing.
+pub fn gap(s: Slave, k: u16) -> Shifted
+    ensures { λ r. ⌜ (r .slave ≡ gapOf s k .slave) × (outcomeOf (r .outcome) ≡ gapOf s k .reply) ⌝ }
+{
+    if soundness::is_sound(s) {
+        return Shifted {
+            slave: gaps::gapped(s, k),
+            outcome: Outcome::Done,
+        };
+    }
+    Shifted {
+        slave: cold_slave(),
+        outcome: Outcome::Refused(15),
+    }
+}
+
+// The settings of a slave's start.
+fn board_of(s: Slave) -> Board
+    ensures { λ r. ⌜ r ≡ boardOf s ⌝ }
+{
+    Board {
+        profile: s.profile,
+        n: s.n,
+        site: s.site,
+        tad: s.tad,
+    }
+}
+
+// The settings in force.
+fn in_force(s: Slave) -> Settings
+    ensures { λ r. ⌜ r ≡ inForce s ⌝ }
+{
+    Settings {
+        od: s.od,
+        frequency: s.frequency,
+        power: s.power,
+    }
+}
+
+// A packet with its arrival tick.
+pub fn packet(s: Slave, p: &[u8], tick: u32) -> Stepped
+    ensures { λ r. ⌜ (r .slave ≡ packetOf s (now (p .entry)) tick .slave) × (answerOf (r .answer) ≡ packetOf s (now (p .entry)) tick .reply) ⌝ }
+{
+    if soundness::is_sound(s) {
+        return steps::step(
+            s,
+            judge::judge_packet(board_of(s), in_force(s), p, tick),
+            tick,
+        );
+    }
+    Stepped {
+        slave: cold_slave(),
+        answer: Answer::Refused(15),
+    }
+}
+
+// A numbers notice with its packet and arrival tick.
+pub fn numbers_notice(
+    s: Slave,
+    p: &[u8],
+    tick: u32,
+    pointer: u16,
+    sts: u32,
+    md: u32,
+    od: i16,
+    index: u8,
+) -> Stepped
+    ensures { λ r. ⌜ (r .slave ≡ numbersOf s (now (p .entry)) tick pointer sts md od index .slave) × (answerOf (r .answer) ≡ numbersOf s (now (p .entry)) tick pointer sts md od index .reply) ⌝ }
+{
+    if soundness::is_sound(s) {
+        return steps::step(
+            s,
+            judge::judge_numbers(
+                board_of(s),
+                in_force(s),
+                p,
+                tick,
+                pointer,
+                sts,
+                md,
+                od,
+                index,
+            ),
+            tick,
+        );
+    }
+    Stepped {
+        slave: cold_slave(),
+        answer: Answer::Refused(15),
+    }
+}
+
+// The timer loop's form of the packet call: the lent slave is updated in its own memory.
+pub fn packet_in_place(s: &mut Slave, p: &[u8], tick: u32) -> Answer
+    ensures { λ r. ⌜ (now (s .exit) ≡ packetOf (now (s .entry)) (now (p .entry)) tick .slave) × (answerOf r ≡ packetOf (now (s .entry)) (now (p .entry)) tick .reply) ⌝ }
+{
+    let r = packet(*s, p, tick);
+    *s = r.slave;
+    r.answer
+}
