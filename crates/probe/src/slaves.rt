@@ -247,3 +247,12 @@ pub extern "C" fn probe_numbers(
         answer: answer_of(a),
     }
 }
+
+#[no_mangle]
+pub extern "C" fn probe_packet_in_place(s: &mut Slave, p: &[u8], tick: u32) -> ProbeAnswer
+    ensures { λ r. ⌜ (now (s .exit) ≡ packetOf (now (s .entry)) (now (p .entry)) tick .slave) × (r ≡ flatAnswer (packetOf (now (s .entry)) (now (p .entry)) tick .reply)) ⌝ }
+{
+    let r = probe_packet(*s, p, tick);
+    *s = r.slave;
+    r.answer
+}
