@@ -1,7 +1,7 @@
 -- n, the packets of a cadence (document 01, "Cadence"): the data frame of A/110 9.1.2.1 and the mega-frames of TS 101 191 clause 5.
 -- Assumes nothing.
 use Prim.Native.Nat.{ℕ, _*_, _/_}
-use mathlib.Core.Bool.{Bool, true, false, cond, _&&_, _||_}
+use mathlib.Core.Bool.{Bool, false, cond, _&&_, _||_}
 use mathlib.Core.List.{List, [], _∷_}
 use lib.Dec.{eqb}
 use Rattle.cadence.specs.declared.Constellation.{Constellation}

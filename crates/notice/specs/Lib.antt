@@ -1,3 +1,4 @@
+-- The definitions of crate `notice`, in reading order.
 pub mod Mip
 pub mod Long
 pub mod Reader

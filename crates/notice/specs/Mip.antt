@@ -1,6 +1,6 @@
 -- The fields of the Mega-frame Initialization Packet, TS 101 191 table 1, in the order in which they stand in its 188 bytes.
 -- Assumes nothing.
-use Prim.Native.Nat.{ℕ, _+_, _*_, _/_, _%_}
+use Prim.Native.Nat.{ℕ, _+_, _/_, _%_}
 use mathlib.Core.Bool.{Bool}
 use mathlib.Core.List.{List}
 use lib.ListN.{getD, take, drop}

@@ -1,10 +1,8 @@
--- The answers of the ground's calls as plain numbers: the paper's number, 0 for none, and the values, all 0 where a number refuses.
+-- The answers of the calls as plain numbers: the paper's number, 0 for none, and the values, all 0 where a number refuses.
 -- Assumes nothing.
-use Prim.Native.Nat.{ℕ, zero, suc}
-use mathlib.Core.Bool.{Bool, true, false, cond, not}
-use mathlib.Core.List.{List, []}
-use lib.Dec.{eqb}
-use lib.IntN.{ℤ, pos}
+use Prim.Native.Nat.{ℕ}
+use mathlib.Core.Bool.{false}
+use lib.IntN.{pos}
 use lib.ListN.{length}
 use Rattle.wire.specs.Reply.{Reply, refused, given}
 use Rattle.times.specs.Release.{Times}

@@ -1,2 +1,3 @@
+-- The definitions of crate `probe`, in reading order.
 pub mod Flat
 pub mod Slaves

@@ -1,4 +1,4 @@
-// The ground's calls for programs in other languages, so that another implementation can be compared with them and speed can be measured.
+// The calls for programs in other languages, so that another implementation can be compared with them and speed can be measured.
 // For tests: it is no part of what a board links.
 pub mod slaves;
 

@@ -1,3 +1,4 @@
+-- The laws of crate `run`, in the order in which they build on each other.
 pub mod Tests
 pub mod Congruence
 pub mod Entries

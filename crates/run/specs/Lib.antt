@@ -1,3 +1,4 @@
+-- The definitions of crate `run`, in reading order.
 pub mod Adapter
 pub mod Book
 pub mod Run

@@ -1,7 +1,7 @@
 -- The calls of a slave: 15 comes first, and leaves the cold slave.
 -- Assumes nothing.
 use Prim.Native.Nat.{ℕ}
-use mathlib.Core.Bool.{Bool, cond}
+use mathlib.Core.Bool.{cond}
 use mathlib.Core.List.{List}
 use lib.IntN.{ℤ}
 use Rattle.wire.specs.Reply.{refused, given}

@@ -1,7 +1,7 @@
 -- A gap: packets that are known to be missing (document 01, "Steps of a slave").
 -- Assumes nothing.
 use Prim.Native.Nat.{ℕ, suc, _+_, _-_, _/_, _%_}
-use mathlib.Core.Bool.{Bool, cond}
+use mathlib.Core.Bool.{cond}
 use lib.Dec.{eqb, leb}
 use Rattle.slave.specs.Step.{raised}
 use Rattle.slave.specs.declared.Slave.{Slave}

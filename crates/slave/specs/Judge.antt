@@ -2,7 +2,7 @@
 -- (document 01, "Numbers a call can refuse with"). It depends on the start's settings, the settings in force and the call alone.
 -- Assumes nothing.
 use Prim.Native.Nat.{ℕ, zero, suc}
-use mathlib.Core.Bool.{Bool, true, false, cond, _&&_, _||_}
+use mathlib.Core.Bool.{cond, _&&_, _||_}
 use mathlib.Core.List.{List}
 use lib.Dec.{eqb, ltb}
 use lib.IntN.{ℤ}
@@ -15,7 +15,7 @@ use Rattle.addressing.specs.declared.Settings.{Settings}
 use Rattle.notice.specs.Mip.{errorIndicator, packetIdentifier}
 use Rattle.notice.specs.Reader.{readOf, addressingPart}
 use Rattle.notice.specs.declared.Notice.{Notice}
-use Rattle.slave.specs.Sound.{second, delayKept, indexFits}
+use Rattle.slave.specs.Sound.{second, delayKept}
 use Rattle.slave.specs.declared.Board.{Board}
 use Rattle.slave.specs.declared.Taken.{Taken}
 use Rattle.slave.specs.declared.Judged.{Judged}

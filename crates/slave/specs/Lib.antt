@@ -1,3 +1,4 @@
+-- The definitions of crate `slave`, in reading order.
 pub mod Sound
 pub mod Answer
 pub mod Judge

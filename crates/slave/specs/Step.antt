@@ -1,13 +1,13 @@
 -- The steps of a sound slave on a packet that was judged (document 01, "Steps of a slave").
 -- Assumes nothing.
 use Prim.Native.Nat.{ℕ, _+_, _%_}
-use mathlib.Core.Bool.{Bool, true, false, cond, not, _&&_}
+use mathlib.Core.Bool.{Bool, false, cond, not, _&&_}
 use lib.Dec.{eqb}
 use Rattle.wire.specs.Reply.{Reply, refused, given}
 use Rattle.times.specs.Release.{Times, dvbRelease, a110Release}
 use Rattle.cadence.specs.Label.{labelOf, nextLabel}
 use Rattle.cadence.specs.MobileFrame.{frameMarks, mobilePlace}
-use Rattle.slave.specs.Answer.{Option, none, some, Notice, absent, taken, slip, ignored, Mark, unmarked, untimed, late, released, Count, Result}
+use Rattle.slave.specs.Answer.{Option, none, some, Notice, absent, taken, slip, ignored, Mark, unmarked, untimed, late, released, Result}
 use Rattle.slave.specs.declared.Slave.{Slave}
 use Rattle.slave.specs.declared.Taken.{Taken}
 use Rattle.slave.specs.declared.Judged.{Judged}

@@ -21,7 +21,7 @@ ghost use Rattle.times.specs.Release.{dvbRelease, a110Release};
 ghost use Rattle.cadence.specs.Label.{nextLabel};
 ghost use Rattle.slave.specs.Answer.{optionOf, noticeOf, markOf, answerOf, untimed, unmarked};
 ghost use Rattle.slave.specs.Pointed.{Pointed};
-ghost use Rattle.slave.specs.Step.{placeOf, markFrom, releaseAt, markAt, indexAt, indexAfter, turns, passed, unheard, counted, entered, took, stepOf};
+ghost use Rattle.slave.specs.Step.{placeOf, markFrom, releaseAt, markAt, indexAt, indexAfter, turns, passed, counted, entered, took, stepOf};
 
 // The label after this one.
 fn next_label(n: u16, label: u16) -> u16

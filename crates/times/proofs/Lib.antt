@@ -1,3 +1,4 @@
+-- The laws of crate `times`, in the order in which they build on each other.
 pub mod Whole
 pub mod Words
 pub mod Formulas

@@ -1,3 +1,4 @@
+-- The definitions of crate `times`, in reading order.
 pub mod Whole
 pub mod Release
 pub mod Answer

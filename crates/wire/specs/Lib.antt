@@ -1,3 +1,4 @@
+-- The definitions of crate `wire`, in reading order.
 pub mod Reply
 pub mod Standards
 pub mod BigEndian

@@ -1,7 +1,7 @@
 -- Two's complement of 16 and 24 bits (tcimsbf in TS 101 191).
 -- Assumes nothing.
 use Prim.Native.Nat.{ℕ, _-_}
-use mathlib.Core.Bool.{Bool, cond}
+use mathlib.Core.Bool.{cond}
 use lib.Dec.{ltb}
 use lib.IntN.{ℤ, pos, negsuc}
 
