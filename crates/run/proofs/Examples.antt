@@ -17,7 +17,7 @@ use Rattle.check_value.specs.Register.{bitIn, bitsIn, registerFrom, register}
 use Rattle.addressing.specs.Functions.{lengthFits, setBy, functionsIn, functionsOf}
 use Rattle.addressing.specs.Entries.{applies, entriesIn, settingsOf, wellFormed}
 use Rattle.notice.specs.Reader.{packetRefusal, headRefusal, bodyRefusal, readRefusal, readOf, addressingPart}
-use Rattle.slave.specs.Sound.{second, delayKept, settingsKept, isZero, frequencyFits, indexFits, pendingFits, huntingFits, lockedFits, sound}
+use Rattle.slave.specs.Sound.{second, delayKept, settingsKept, isZero, frequencyFits, indexFits, pendingFits, huntingFits, lockedFits, partsFit, sound}
 use Rattle.slave.specs.Answer as Answer
 use Rattle.slave.specs.Answer.{Option, none, some, Notice, absent, slip, Mark, unmarked, untimed, released, Count}
 use Rattle.slave.specs.Judge.{arrivalRefusal, takenRefusal, judgePacket, numbersRefusal, judgeNumbers}
@@ -142,7 +142,7 @@ pub computed :
     × Computed A g cadenceCalls cadenceReplies (false ∷ true ∷ false ∷ false ∷ false ∷ [])
     × Computed A h otherCalls otherReplies (false ∷ true ∷ [])
     × Computed B k mipCalls mipReplies (false ∷ true ∷ true ∷ true ∷ [])
-unfolding places turn verdict verdictOf judged enter count fall untold startOf hear leave packetOf numbersOf gapOf sound settingsKept admits second huntingFits isZero lockedFits frequencyFits indexFits pendingFits delayKept delayFits delayFitsA110 within judgePacket judgeNumbers arrivalRefusal takenRefusal numbersRefusal stepOf counted passed unheard took markAt markTaken noticeTaken releaseAt releaseOf limits Release.markOf wrap modulation linkDelay gapped isMegaFrame atSomeRate readOf readRefusal packetRefusal headRefusal bodyRefusal addressingPart wellFormed settingsOf entriesIn functionsOf functionsIn lengthFits setBy applies register registerFrom bitsIn bitIn
+unfolding places turn verdict verdictOf judged enter count fall untold startOf hear leave packetOf numbersOf gapOf sound settingsKept admits second partsFit huntingFits isZero lockedFits frequencyFits indexFits pendingFits delayKept delayFits delayFitsA110 within judgePacket judgeNumbers arrivalRefusal takenRefusal numbersRefusal stepOf counted passed unheard took markAt markTaken noticeTaken releaseAt releaseOf limits Release.markOf wrap modulation linkDelay gapped isMegaFrame atSomeRate readOf readRefusal packetRefusal headRefusal bodyRefusal addressingPart wellFormed settingsOf entriesIn functionsOf functionsIn lengthFits setBy applies register registerFrom bitsIn bitIn
 computed = (
   record {
     run =

@@ -12,7 +12,7 @@ use Rattle.times.specs.Release.{inSecond}
 use Rattle.cadence.specs.Cadence.{admits}
 use Rattle.cadence.specs.Label.{labelOf}
 use Rattle.cadence.proofs.Lengths.{admitted-range}
-use Rattle.slave.specs.Sound.{second, delayKept, settingsKept, isZero, frequencyFits, indexFits, pendingFits, huntingFits, lockedFits, sound, hunting}
+use Rattle.slave.specs.Sound.{second, delayKept, settingsKept, isZero, frequencyFits, indexFits, pendingFits, huntingFits, lockedFits, partsFit, sound, hunting}
 use Rattle.slave.specs.Answer.{Notice, Result}
 use Rattle.slave.specs.Step.{raised, indexAt, agrees, passed, unheard, counted, took, stepOf}
 use Rattle.slave.specs.Gap.{toMark, gapped}
@@ -37,11 +37,17 @@ some-packets profile n site tad e =
     let r = admitted-range profile n a in
     (a, omega arith)
 
+abbrev hunts : Slave → Bool
+hunts s = huntingFits (s .od) (s .frequency) (s .power) (s .next) (s .pending) (s .index) (s .sts) (s .md)
+
+abbrev locks : Slave → Bool
+locks s = lockedFits (s .profile) (s .n) (s .tad) (s .od) (s .frequency) (s .next) (s .pending) (s .index) (s .sts) (s .md)
+
 record Locked (s : Slave) : Type 0 where
   frequency : frequencyFits (s .frequency) ≡ true
   small : ltb (s .next) (s .n) ≡ true
   index : indexFits (s .profile) (s .index) ≡ true
-  held : pendingFits s ≡ true
+  held : pendingFits (s .profile) (s .tad) (s .od) (s .pending) (s .sts) (s .md) ≡ true
 
 in-eight : (a b c d e f g h : Bool) → (a && b && c && d && e && f && g && h) ≡ true → (b ≡ true) × (f ≡ true)
 in-eight a b c d e f g h q =
@@ -61,8 +67,8 @@ module _ (s : Slave) (ok : sound s ≡ true) where
   settings-kept = both (settingsKept (s .profile) (s .n) (s .site) (s .tad)) _ ok .0
 
   -- either phase has a frequency and an index that fit
-  phases : cond (eqb (s .phase) 1) (huntingFits s) (eqb (s .phase) 2 && lockedFits s) ≡ true
-  unfolding sound
+  phases : cond (eqb (s .phase) 1) (hunts s) (eqb (s .phase) 2 && locks s) ≡ true
+  unfolding sound partsFit
   phases = both (settingsKept (s .profile) (s .n) (s .site) (s .tad)) _ ok .1
 
   locked : eqb (s .phase) 2 ≡ true → Locked s
@@ -88,8 +94,8 @@ module _ (s : Slave) (ok : sound s ≡ true) where
           (l .frequency, l .index)
 
 is-sound : (s : Slave) → s .phase ≡ 2 → Kept s → Locked s → sound s ≡ true
-unfolding sound lockedFits
-is-sound s p k l = join k (subst (λ (x : ℕ). cond (eqb x 1) (huntingFits s) (eqb x 2 && lockedFits s) ≡ true) (sym p) (join (join (join (l .frequency) (l .small)) (l .index)) (l .held)))
+unfolding sound partsFit lockedFits
+is-sound s p k l = join k (subst (λ (x : ℕ). cond (eqb x 1) (hunts s) (eqb x 2 && locks s) ≡ true) (sym p) (join (join (join (l .frequency) (l .small)) (l .index)) (l .held)))
 
 -- ---- the index and the pending notice over a step
 
@@ -106,20 +112,15 @@ raised-fits profile index marks e = go (eqb index 255) refl
         no-or : (a b : Bool) → a ≡ false → (a || b) ≡ b
         no-or a b e = rw e
 
--- of either profile's U, 13, and a notice's three parts
-abbrev heldBy : (profile tad : ℕ) (od : ℤ) (pending sts md : ℕ) → Bool
-heldBy profile tad od pending sts md =
-    cond (eqb pending 1)
-    (inSecond (second profile) sts && inSecond (second profile) md && delayKept profile md od tad)
-    (eqb pending 0 && eqb sts 0 && eqb md 0)
-
 -- a notice kept or cleared, whole
-module _ (profile tad : ℕ) (od : ℤ) (pending sts md : ℕ) (h : heldBy profile tad od pending sts md ≡ true) where
-  cleared-if : (b : Bool) → heldBy profile tad od (cond b 0 pending) (cond b 0 sts) (cond b 0 md) ≡ true
+module _ (profile tad : ℕ) (od : ℤ) (pending sts md : ℕ) (h : pendingFits profile tad od pending sts md ≡ true) where
+  cleared-if : (b : Bool) → pendingFits profile tad od (cond b 0 pending) (cond b 0 sts) (cond b 0 md) ≡ true
+  unfolding pendingFits
   cleared-if true = refl
   cleared-if false = h
 
-  kept-if : (b : Bool) → heldBy profile tad od (cond b pending 0) (cond b sts 0) (cond b md 0) ≡ true
+  kept-if : (b : Bool) → pendingFits profile tad od (cond b pending 0) (cond b sts 0) (cond b md 0) ≡ true
+  unfolding pendingFits
   kept-if true = h
   kept-if false = refl
 
@@ -133,7 +134,7 @@ module _ (s : Slave) (ok : sound s ≡ true) where
   fits-at = pick (λ (i : ℕ). indexFits (s .profile) i ≡ true) (eqb (s .next) 0) _ _ (raised-fits (s .profile) (s .index) 1 (either-phase s ok .1)) (either-phase s ok .1)
 
   passed-sound : (notice : Notice) (tick : ℕ) → eqb (s .phase) 2 ≡ true → sound (passed s notice tick .slave) ≡ true
-  unfolding passed pendingFits
+  unfolding passed
   passed-sound notice tick e =
       let l = locked s ok e in
       is-sound _ refl (settings-kept s ok)
@@ -169,7 +170,7 @@ module _ (s : Slave) (ok : sound s ≡ true) where
   step-sound (Take t) tick f = took-sound t tick (f t refl)
 
   pub gap-sound : (k : ℕ) → sound (gapped s k) ≡ true
-  unfolding gapped pendingFits
+  unfolding gapped
   gap-sound k =
       split (λ (x : Slave). sound x ≡ true) (eqb (s .phase) 2) _ _
       (λ e.
@@ -186,5 +187,5 @@ module _ (s : Slave) (ok : sound s ≡ true) where
 -- ---- what an accepted start gives
 
 pub hunting-sound : (profile n site tad : ℕ) → settingsKept profile n site tad ≡ true → sound (hunting profile n site tad) ≡ true
-unfolding sound huntingFits isZero
+unfolding sound partsFit huntingFits isZero
 hunting-sound profile n site tad e = join e refl

@@ -7,4 +7,5 @@ pub mod Ways
 pub mod Pointing
 pub mod Judging
 pub mod Calling
+pub mod Plain
 pub mod Walk

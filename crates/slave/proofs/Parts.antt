@@ -9,7 +9,7 @@ use borrow.Author.Tests.{eqb-true, eqb-false, eq-eqb, ne-eqb, ltb-true}
 use Rattle.times.specs.Release.{inSecond}
 use Rattle.cadence.specs.Cadence.{admits}
 use Rattle.cadence.proofs.Lengths.{admitted-range}
-use Rattle.slave.specs.Sound.{second, isZero, frequencyFits, indexFits, pendingFits, settingsKept, huntingFits, lockedFits, sound}
+use Rattle.slave.specs.Sound.{second, isZero, frequencyFits, indexFits, settingsKept, huntingFits, lockedFits, partsFit, sound}
 use Rattle.slave.specs.declared.Slave.{Slave}
 
 -- both sides of a conjunction
@@ -29,21 +29,28 @@ module _ (s : Slave) (k : sound s ≡ true) where
   pub cadence-range : (624 ≤ s .n) × (s .n ≤ 10_584)
   cadence-range = admitted-range (s .profile) (s .n) admitted
 
-  -- the two phases
-  phase-holds : cond (eqb (s .phase) 1) (huntingFits s) (eqb (s .phase) 2 && lockedFits s) ≡ true
-  unfolding sound
+  -- the parts besides the start's settings
+  abbrev hunts-well : Bool
+  hunts-well = huntingFits (s .od) (s .frequency) (s .power) (s .next) (s .pending) (s .index) (s .sts) (s .md)
+
+  abbrev locks-well : Bool
+  locks-well = lockedFits (s .profile) (s .n) (s .tad) (s .od) (s .frequency) (s .next) (s .pending) (s .index) (s .sts) (s .md)
+
+  phase-holds : cond (eqb (s .phase) 1) hunts-well (eqb (s .phase) 2 && locks-well) ≡ true
+  unfolding sound partsFit
   phase-holds = both (settingsKept (s .profile) (s .n) (s .site) (s .tad)) _ k .1
 
-  pub hunts : s .phase ≡ 1 → huntingFits s ≡ true
+  -- the two phases
+  pub hunts : s .phase ≡ 1 → hunts-well ≡ true
   hunts e = rw (eq-eqb (s .phase) 1 e) at phase-holds
 
-  pub locked : (s .phase ≡ 1 → ⊥) → (s .phase ≡ 2) × (lockedFits s ≡ true)
+  pub locked : (s .phase ≡ 1 → ⊥) → (s .phase ≡ 2) × (locks-well ≡ true)
   locked h =
-      let q = both (eqb (s .phase) 2) (lockedFits s) (rw (ne-eqb (s .phase) 1 h) at phase-holds) in
+      let q = both (eqb (s .phase) 2) locks-well (rw (ne-eqb (s .phase) 1 h) at phase-holds) in
       (eqb-true (s .phase) 2 (q .0), q .1)
 
   -- a hunting slave's count is 0
-  hunting-next : huntingFits s ≡ true → s .next ≡ 0
+  hunting-next : hunts-well ≡ true → s .next ≡ 0
   unfolding huntingFits
   hunting-next h =
       let a : Bool = isZero (s .od) && isZero (s .frequency) && eqb (s .power) 0 in
@@ -53,11 +60,11 @@ module _ (s : Slave) (k : sound s ≡ true) where
       let h₄ = both (a && eqb (s .next) 0) (eqb (s .pending) 0) h₃ .0 in
       eqb-true (s .next) 0 (both a (eqb (s .next) 0) h₄ .1)
 
-  locked-next : lockedFits s ≡ true → s .next < s .n
+  locked-next : locks-well ≡ true → s .next < s .n
   unfolding lockedFits
   locked-next h =
       let f : Bool = frequencyFits (s .frequency) in
-      let h₁ = both (f && ltb (s .next) (s .n) && indexFits (s .profile) (s .index)) (pendingFits s) h .0 in
+      let h₁ = both (f && ltb (s .next) (s .n) && indexFits (s .profile) (s .index)) _ h .0 in
       let h₂ = both (f && ltb (s .next) (s .n)) (indexFits (s .profile) (s .index)) h₁ .0 in
       ltb-true (s .next) (s .n) (both f (ltb (s .next) (s .n)) h₂ .1)
 

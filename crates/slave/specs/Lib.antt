@@ -6,3 +6,4 @@ pub mod Pointed
 pub mod Step
 pub mod Gap
 pub mod Calls
+pub mod Quick

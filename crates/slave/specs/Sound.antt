@@ -35,25 +35,31 @@ unfoldable pub indexFits : ℕ → ℕ → Bool
 indexFits profile index = eqb index 255 || (eqb profile 1 && ltb index 20)
 
 -- nothing pending has STS and MD 0; a pending notice is in range and satisfies 13
-unfoldable pub pendingFits : Slave → Bool
-pendingFits s =
-    cond (eqb (s .pending) 1)
-    (inSecond (second (s .profile)) (s .sts) && inSecond (second (s .profile)) (s .md) && delayKept (s .profile) (s .md) (s .od) (s .tad))
-    (eqb (s .pending) 0 && eqb (s .sts) 0 && eqb (s .md) 0)
+unfoldable pub pendingFits : (profile tad : ℕ) (od : ℤ) (pending sts md : ℕ) → Bool
+pendingFits profile tad od pending sts md =
+    cond (eqb pending 1)
+    (inSecond (second profile) sts && inSecond (second profile) md && delayKept profile md od tad)
+    (eqb pending 0 && eqb sts 0 && eqb md 0)
 
-unfoldable pub huntingFits : Slave → Bool
-huntingFits s =
-    isZero (s .od) && isZero (s .frequency) && eqb (s .power) 0 && eqb (s .next) 0 && eqb (s .pending) 0 && eqb (s .index) 255
-    && eqb (s .sts) 0 && eqb (s .md) 0
+unfoldable pub huntingFits : (od frequency : ℤ) (power next pending index sts md : ℕ) → Bool
+huntingFits od frequency power next pending index sts md =
+    isZero od && isZero frequency && eqb power 0 && eqb next 0 && eqb pending 0 && eqb index 255 && eqb sts 0 && eqb md 0
 
-unfoldable pub lockedFits : Slave → Bool
-lockedFits s = frequencyFits (s .frequency) && ltb (s .next) (s .n) && indexFits (s .profile) (s .index) && pendingFits s
+unfoldable pub lockedFits : (profile n tad : ℕ) (od frequency : ℤ) (next pending index sts md : ℕ) → Bool
+lockedFits profile n tad od frequency next pending index sts md =
+    frequencyFits frequency && ltb next n && indexFits profile index && pendingFits profile tad od pending sts md
 
 -- phase 1 hunts, phase 2 is locked
+unfoldable pub partsFit : (phase profile n tad : ℕ) (od frequency : ℤ) (power next pending index sts md : ℕ) → Bool
+partsFit phase profile n tad od frequency power next pending index sts md =
+    cond (eqb phase 1)
+    (huntingFits od frequency power next pending index sts md)
+    (eqb phase 2 && lockedFits profile n tad od frequency next pending index sts md)
+
 unfoldable pub sound : Slave → Bool
 sound s =
     settingsKept (s .profile) (s .n) (s .site) (s .tad)
-    && cond (eqb (s .phase) 1) (huntingFits s) (eqb (s .phase) 2 && lockedFits s)
+    && partsFit (s .phase) (s .profile) (s .n) (s .tad) (s .od) (s .frequency) (s .power) (s .next) (s .pending) (s .index) (s .sts) (s .md)
 
 -- the very cold slave, which 15 leaves
 abbrev pub cold : Slave

@@ -14,6 +14,7 @@ ghost use Rattle.notice.specs.Mip.{errorIndicator, packetIdentifier};
 ghost use Rattle.notice.specs.Reader.{readOf, addressingPart};
 ghost use Rattle.addressing.specs.Entries.{settingsOf};
 ghost use Rattle.slave.specs.Judge.{arrivalRefusal, takenRefusal, numbersRefusal, unlessIgnored, judgeMip, judgePacket, judgeNumbers};
+ghost use Rattle.slave.specs.Quick.{isPlain};
 
 // 1, 2 or 3, or 0 for none.
 pub(crate) fn arrival_refusal(b: Board, p: &[u8], tick: u32) -> u8
@@ -109,6 +110,22 @@ fn judge_mip(b: Board, t: Settings, p: &[u8]) -> Judged
         }
         Reading::Refused(k) => Judged::Ignore(k),
     }
+}
+
+// The packet arrives right and carries no notice.
+pub(crate) fn is_plain(b: Board, p: &[u8], tick: u32) -> bool
+    ensures { λ r. ⌜ r ≡ isPlain b (now (p .entry)) tick ⌝ }
+{
+    if arrival_refusal(b, p, tick) != 0 {
+        return false;
+    }
+    if error_indicator(p) != 0 {
+        return false;
+    }
+    if b.profile != 0 {
+        return true;
+    }
+    packet_identifier(p) != 0x15
 }
 
 // A packet with its arrival tick. 4 comes before the PID, and profile 1 reads no MIP.

@@ -6,6 +6,9 @@ ghost use mathlib.Core.Path.{_≡_};
 ghost use Rattle.slave.specs.Sound.{cold, hunting};
 ghost use Rattle.slave.specs.Answer.{answerOf, outcomeOf};
 ghost use Rattle.slave.specs.Calls.{boardOf, inForce, startOf, packetOf, numbersOf, gapOf};
+ghost use mathlib.Core.Bool.{false};
+ghost use Rattle.wire.specs.Reply.{refused};
+ghost use Rattle.slave.specs.Quick.{applies, quickNext, quickReply};
 
 // A slave's parts are those of the saved body. TAD, STS and MD are in the profile's own unit.
 #[repr(C)]
@@ -209,8 +212,8 @@ fn in_force(s: Slave) -> Settings
     }
 }
 
-// A packet with its arrival tick.
-pub fn packet(s: Slave, p: &[u8], tick: u32) -> Stepped
+// Any packet.
+fn arrived(s: Slave, p: &[u8], tick: u32) -> Stepped
     ensures { λ r. ⌜ (r .slave ≡ packetOf s (now (p .entry)) tick .slave) × (answerOf (r .answer) ≡ packetOf s (now (p .entry)) tick .reply) ⌝ }
 {
     if soundness::is_sound(s) {
@@ -223,6 +226,59 @@ pub fn packet(s: Slave, p: &[u8], tick: u32) -> Stepped
     Stepped {
         slave: cold_slave(),
         answer: Answer::Refused(15),
+    }
+}
+
+// A packet with its arrival tick. Nearly every packet is plain and no mark: these go first, and change the count alone.
+pub fn packet(s: Slave, p: &[u8], tick: u32) -> Stepped
+    ensures { λ r. ⌜ (r .slave ≡ packetOf s (now (p .entry)) tick .slave) × (answerOf (r .answer) ≡ packetOf s (now (p .entry)) tick .reply) ⌝ }
+{
+    if soundness::settings_kept(s.profile, s.n, s.site, s.tad) {
+        if soundness::parts_fit(
+            s.phase,
+            s.profile,
+            s.n,
+            s.tad,
+            s.od,
+            s.frequency,
+            s.power,
+            s.next,
+            s.pending,
+            s.index,
+            s.sts,
+            s.md,
+        ) {
+            if judge::is_plain(board_of(s), p, tick) {
+                if !steps::on_mark(s.phase, s.next) {
+                    let after = Slave {
+                        phase: s.phase,
+                        profile: s.profile,
+                        n: s.n,
+                        site: s.site,
+                        tad: s.tad,
+                        od: s.od,
+                        frequency: s.frequency,
+                        power: s.power,
+                        next: steps::label_left(s.phase, s.n, s.next),
+                        pending: s.pending,
+                        index: s.index,
+                        sts: s.sts,
+                        md: s.md,
+                    };
+                    return Stepped {
+                        slave: after,
+                        answer: steps::plain_answer(s.phase, s.next, s.index),
+                    };
+                }
+            }
+        }
+    }
+    let r = arrived(s, p, tick);
+    let after = r.slave;
+    let answer = r.answer;
+    Stepped {
+        slave: after,
+        answer: answer,
     }
 }
 
@@ -262,11 +318,69 @@ pub fn numbers_notice(
     }
 }
 
+// The short way of a plain packet that is no mark: whether it applies, and then the count that it leaves and the reply.
+struct Shortcut {
+    applies: bool,
+    next: u16,
+    answer: Answer,
+}
+
+fn no_shortcut() -> Shortcut
+    ensures { λ r. ⌜ (r .applies ≡ false) × (r .next ≡ 0) × (answerOf (r .answer) ≡ refused 0) ⌝ }
+{
+    Shortcut {
+        applies: false,
+        next: 0,
+        answer: Answer::Refused(0),
+    }
+}
+
+fn quick(s: Slave, p: &[u8], tick: u32) -> Shortcut
+    ensures { λ r. ⌜ (r .applies ≡ applies s (now (p .entry)) tick) × (r .next ≡ quickNext s (now (p .entry)) tick) × (answerOf (r .answer) ≡ quickReply s (now (p .entry)) tick) ⌝ }
+{
+    if !soundness::settings_kept(s.profile, s.n, s.site, s.tad) {
+        return no_shortcut();
+    }
+    if !soundness::parts_fit(
+        s.phase,
+        s.profile,
+        s.n,
+        s.tad,
+        s.od,
+        s.frequency,
+        s.power,
+        s.next,
+        s.pending,
+        s.index,
+        s.sts,
+        s.md,
+    ) {
+        return no_shortcut();
+    }
+    if !judge::is_plain(board_of(s), p, tick) {
+        return no_shortcut();
+    }
+    if steps::on_mark(s.phase, s.next) {
+        return no_shortcut();
+    }
+    Shortcut {
+        applies: true,
+        next: steps::label_left(s.phase, s.n, s.next),
+        answer: steps::plain_answer(s.phase, s.next, s.index),
+    }
+}
+
 // The timer loop's form of the packet call: the lent slave is updated in its own memory.
 pub fn packet_in_place(s: &mut Slave, p: &[u8], tick: u32) -> Answer
     ensures { λ r. ⌜ (now (s .exit) ≡ packetOf (now (s .entry)) (now (p .entry)) tick .slave) × (answerOf r ≡ packetOf (now (s .entry)) (now (p .entry)) tick .reply) ⌝ }
 {
-    let r = packet(*s, p, tick);
-    *s = r.slave;
-    r.answer
+    let q = quick(*s, p, tick);
+    if q.applies {
+        s.next = q.next;
+        return q.answer;
+    } else {
+        let r = arrived(*s, p, tick);
+        *s = r.slave;
+        return r.answer;
+    }
 }

@@ -2,7 +2,7 @@
 use crate::Slave;
 use crate::limits;
 ghost use mathlib.Core.Path.{_≡_};
-ghost use Rattle.slave.specs.Sound.{settingsKept, isZero, frequencyFits, indexFits, pendingFits, huntingFits, lockedFits, sound};
+ghost use Rattle.slave.specs.Sound.{settingsKept, isZero, frequencyFits, indexFits, pendingFits, huntingFits, lockedFits, partsFit, sound};
 
 // The limits of a start's settings.
 pub(crate) fn settings_kept(profile: u8, n: u16, site: u16, tad: u32) -> bool
@@ -51,69 +51,126 @@ fn index_fits(profile: u8, index: u8) -> bool
 }
 
 // Nothing pending, or a notice in range that satisfies 13.
-fn pending_fits(s: Slave) -> bool
-    ensures { λ r. ⌜ r ≡ pendingFits s ⌝ }
+fn pending_fits(profile: u8, tad: u32, od: i16, pending: u8, sts: u32, md: u32) -> bool
+    ensures { λ r. ⌜ r ≡ pendingFits profile tad od pending sts md ⌝ }
 {
-    if s.pending == 1 {
-        if !limits::in_second(s.profile, s.sts) {
+    if pending == 1 {
+        if !limits::in_second(profile, sts) {
             return false;
         }
-        if !limits::in_second(s.profile, s.md) {
+        if !limits::in_second(profile, md) {
             return false;
         }
-        return limits::delay_kept(s.profile, s.md, s.od, s.tad);
+        return limits::delay_kept(profile, md, od, tad);
     }
-    if s.pending != 0 {
+    if pending != 0 {
         return false;
     }
-    if s.sts != 0 {
+    if sts != 0 {
         return false;
     }
-    s.md == 0
+    md == 0
 }
 
 // Hunting has its zeros and 255.
-fn hunting_fits(s: Slave) -> bool
-    ensures { λ r. ⌜ r ≡ huntingFits s ⌝ }
+fn hunting_fits(
+    od: i16,
+    frequency: i32,
+    power: u16,
+    next: u16,
+    pending: u8,
+    index: u8,
+    sts: u32,
+    md: u32,
+) -> bool
+    ensures { λ r. ⌜ r ≡ huntingFits od frequency power next pending index sts md ⌝ }
 {
-    if !is_zero(s.od as i32) {
+    if !is_zero(od as i32) {
         return false;
     }
-    if !is_zero(s.frequency) {
+    if !is_zero(frequency) {
         return false;
     }
-    if s.power != 0 {
+    if power != 0 {
         return false;
     }
-    if s.next != 0 {
+    if next != 0 {
         return false;
     }
-    if s.pending != 0 {
+    if pending != 0 {
         return false;
     }
-    if s.index != 255 {
+    if index != 255 {
         return false;
     }
-    if s.sts != 0 {
+    if sts != 0 {
         return false;
     }
-    s.md == 0
+    md == 0
 }
 
 // A locked slave's parts are in their ranges.
-fn locked_fits(s: Slave) -> bool
-    ensures { λ r. ⌜ r ≡ lockedFits s ⌝ }
+fn locked_fits(
+    profile: u8,
+    n: u16,
+    tad: u32,
+    od: i16,
+    frequency: i32,
+    next: u16,
+    pending: u8,
+    index: u8,
+    sts: u32,
+    md: u32,
+) -> bool
+    ensures { λ r. ⌜ r ≡ lockedFits profile n tad od frequency next pending index sts md ⌝ }
 {
-    if !frequency_fits(s.frequency) {
+    if !frequency_fits(frequency) {
         return false;
     }
-    if s.next >= s.n {
+    if next >= n {
         return false;
     }
-    if !index_fits(s.profile, s.index) {
+    if !index_fits(profile, index) {
         return false;
     }
-    pending_fits(s)
+    pending_fits(profile, tad, od, pending, sts, md)
+}
+
+// The parts besides the start's settings. They are handed over one by one: the compiler then keeps them out of memory.
+pub(crate) fn parts_fit(
+    phase: u8,
+    profile: u8,
+    n: u16,
+    tad: u32,
+    od: i16,
+    frequency: i32,
+    power: u16,
+    next: u16,
+    pending: u8,
+    index: u8,
+    sts: u32,
+    md: u32,
+) -> bool
+    ensures { λ r. ⌜ r ≡ partsFit phase profile n tad od frequency power next pending index sts md ⌝ }
+{
+    if phase == 1 {
+        return hunting_fits(od, frequency, power, next, pending, index, sts, md);
+    }
+    if phase == 2 {
+        return locked_fits(
+            profile,
+            n,
+            tad,
+            od,
+            frequency,
+            next,
+            pending,
+            index,
+            sts,
+            md,
+        );
+    }
+    false
 }
 
 // A slave whose parts a saved body may hold.
@@ -123,11 +180,18 @@ pub(crate) fn is_sound(s: Slave) -> bool
     if !settings_kept(s.profile, s.n, s.site, s.tad) {
         return false;
     }
-    if s.phase == 1 {
-        return hunting_fits(s);
-    }
-    if s.phase == 2 {
-        return locked_fits(s);
-    }
-    false
+    parts_fit(
+        s.phase,
+        s.profile,
+        s.n,
+        s.tad,
+        s.od,
+        s.frequency,
+        s.power,
+        s.next,
+        s.pending,
+        s.index,
+        s.sts,
+        s.md,
+    )
 }

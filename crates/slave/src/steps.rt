@@ -22,6 +22,7 @@ ghost use Rattle.cadence.specs.Label.{nextLabel};
 ghost use Rattle.slave.specs.Answer.{optionOf, noticeOf, markOf, answerOf, untimed, unmarked};
 ghost use Rattle.slave.specs.Pointed.{Pointed};
 ghost use Rattle.slave.specs.Step.{placeOf, markFrom, releaseAt, markAt, indexAt, indexAfter, turns, passed, counted, entered, took, stepOf};
+ghost use Rattle.slave.specs.Quick.{onMark, labelLeft, plainReply};
 
 // The label after this one.
 fn next_label(n: u16, label: u16) -> u16
@@ -43,6 +44,51 @@ fn place_of(index: u8, label: u16) -> Maybe
         return Maybe::Nothing;
     }
     Maybe::Just(cadence::mobile_place(((index as u16 + 19) % 20) as u8, label))
+}
+
+// The slave is locked and its next packet is a mark.
+pub(crate) fn on_mark(phase: u8, next: u16) -> bool
+    ensures { λ r. ⌜ r ≡ onMark phase next ⌝ }
+{
+    if phase == 2 {
+        return next == 0;
+    }
+    false
+}
+
+// The label that a packet leaves.
+pub(crate) fn label_left(phase: u8, n: u16, next: u16) -> u16
+    requires { ⌜ next < n ⌝ }
+    ensures { λ r. ⌜ r ≡ labelLeft phase n next ⌝ }
+{
+    if phase == 2 {
+        return next_label(n, next);
+    }
+    next
+}
+
+// The reply to a plain packet that is no mark.
+pub(crate) fn plain_answer(phase: u8, next: u16, index: u8) -> Answer
+    ensures { λ r. ⌜ answerOf r ≡ plainReply phase next index ⌝ }
+{
+    if phase == 2 {
+        let reply = Counted {
+            label: Maybe::Just(next),
+            notice: NoticePart::Absent,
+            turn: false,
+            mark: MarkPart::Unmarked,
+            place: place_of(index, next),
+        };
+        return Answer::Counted(reply);
+    }
+    let reply = Counted {
+        label: Maybe::Nothing,
+        notice: NoticePart::Absent,
+        turn: false,
+        mark: MarkPart::Unmarked,
+        place: Maybe::Nothing,
+    };
+    Answer::Counted(reply)
 }
 
 // The pending notice's release in 100 ns steps.

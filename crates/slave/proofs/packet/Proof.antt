@@ -1,77 +1,87 @@
 -- `slave::packet` meets its contract.
 -- Assumes nothing.
 use borrow.Author.Needs.{needs}
-use mathlib.Core.Path.{_≡_, sym, ap, ap₂, subst, _∙_}
-use lib.IntN.{ℤ}
-use mir.Facts.{toZ-ofZ}
+use mathlib.Core.Path.{_≡_, sym, ap, _∙_}
+use mathlib.Core.Bool.{Bool, true, false}
+use borrow.Author.Tests.{not-true, not-false}
 use denote.Ref.{now}
-use Rattle.addressing.specs.declared.Settings.{Settings}
-use Rattle.slave.specs.Answer.{Result}
-use Rattle.slave.specs.Judge.{judgePacket}
-use Rattle.slave.specs.Pointed.{Pointed}
-use Rattle.slave.specs.Step.{stepOf}
-use Rattle.slave.specs.Calls.{boardOf, inForce}
+use mir.Syntax.{w16, w32}
+use mir.Val.{toZ, ofZ}
+use Rattle.slave.specs.Sound.{sound}
+use Rattle.slave.specs.Calls.{boardOf}
+use Rattle.slave.specs.Quick.{isPlain, onMark, applies}
 use Rattle.slave.specs.declared.Board.{Board}
-use Rattle.slave.specs.declared.Judged.{Judged}
 use Rattle.slave.proofs.Parts.{next-below}
-use Rattle.slave.proofs.Pointing.{packet-pointed}
-use Rattle.slave.proofs.Calling.{packet-steps, packet-refused}
+use Rattle.slave.proofs.Plain.{keptOf, partsOf, parts-read, sound-by, short, short-slave, short-reply}
 use Rattle.slave.proofs.packet.Statement.{statement}
 use Rattle.slave.proofs.packet.Tie as tie
 
-judged : (c : tie.After-judge-packet) → let a = c .before .before .before .before .before .before .args in
-    c .judge-packet .result ≡ judgePacket (boardOf (a .s)) (inForce (a .s)) (now (a .p)) (a .tick)
-judged c =
-    let a = c .before .before .before .before .before .before .args in
-    c .judge-packet .ensures
-    ∙ ap₂ (λ (b : Board) (t : Settings). judgePacket b t (now (a .p)) (a .tick)) (c .before .before .board-of .ensures) (c .before .in-force .ensures)
+-- ---- what each test found
 
-is-sound-requires : tie.Need-is-sound-requires
-is-sound-requires c κs = search needs
+kept : (c : tie.Then1) → keptOf (c .before .before .before .args .s) ≡ true
+kept c = sym (c .before .settings-kept .ensures) ∙ c .if1 .taken
+
+fitting : (c : tie.Then2) → partsOf (c .before .before .before .before .before .before .before .args .s) ≡ true
+fitting c =
+    let s = c .before .before .before .before .before .before .before .args .s in
+    let o : toZ w16 (ofZ w16 (s .od)) ≡ s .od = search (needs, c .before .before .before .struct-told .given) in
+    let f : toZ w32 (ofZ w32 (s .frequency)) ≡ s .frequency = search (needs, c .before .before .struct-told2 .given) in
+    sym (c .before .parts-fit .ensures ∙ parts-read s o f) ∙ c .if2 .taken
+
+plainly : (c : tie.Then3) → let a = c .before .before .before .before .before .before .before .before .before .before .args in isPlain (boardOf (a .s)) (now (a .p)) (a .tick) ≡ true
+plainly c =
+    let a = c .before .before .before .before .before .before .before .before .before .before .args in
+    sym (c .before .is-plain .ensures ∙ ap (λ (b : Board). isPlain b (now (a .p)) (a .tick)) (c .before .before .board-of .ensures)) ∙ c .if3 .taken
+
+-- ---- the returns
+
+settings-kept-requires : tie.Need-settings-kept-requires
+settings-kept-requires c κs = search needs
+
+parts-fit-requires : tie.Need-parts-fit-requires
+parts-fit-requires c κs = search needs
 
 board-of-requires : tie.Need-board-of-requires
 board-of-requires c κs = search needs
 
-in-force-requires : tie.Need-in-force-requires
-in-force-requires c κs = search needs
+is-plain-requires : tie.Need-is-plain-requires
+is-plain-requires c κs = search needs
 
-judge-packet-requires : tie.Need-judge-packet-requires
-judge-packet-requires c κs = search needs
+on-mark-requires : tie.Need-on-mark-requires
+on-mark-requires c κs = search needs
 
-step-requires : tie.Need-step-requires
-step-requires c κs =
-    let a = c .before .before .before .before .before .before .args in
-    let k = sym (c .before .before .before .before .is-sound .ensures) ∙ c .before .before .before .if1 .taken in
-    (next-below (a .s) k, subst (Pointed (a .s .n)) (sym (judged c)) (packet-pointed (boardOf (a .s)) (inForce (a .s)) (now (a .p)) (a .tick)))
+label-left-requires : tie.Need-label-left-requires
+label-left-requires c κs = next-below (c .before .before .before .before .before .before .before .before .before .before .before .before .args .s) (sound-by (c .before .before .before .before .before .before .before .before .before .before .before .before .args .s) (kept (c .before .before .before .before .before .before .before .before .before)) (fitting (c .before .before .before .before .before)))
+
+plain-answer-requires : tie.Need-plain-answer-requires
+plain-answer-requires c κs = search needs
 
 returns : tie.Need-returns
 returns c =
-    let a = c .before .before .before .before .before .before .before .args in
-    let k = sym (c .before .before .before .before .before .is-sound .ensures) ∙ c .before .before .before .before .if1 .taken in
-    let q = packet-steps (a .s) (now (a .p)) (a .tick) k in
-    let j = judged (c .before) in (
-      c .step .ensures .0 ∙ ap (λ (j : Judged). stepOf (a .s) j (a .tick) .slave) j ∙ sym (ap (λ (r : Result). r .slave) q),
-      c .step .ensures .1 ∙ ap (λ (j : Judged). stepOf (a .s) j (a .tick) .reply) j ∙ sym (ap (λ (r : Result). r .reply) q),
-    )
+    let a = c .before .before .before .before .before .before .before .before .before .before .before .before .before .before .before .args in
+    let s = a .s in
+    let h = short s (now (a .p)) (a .tick) (kept (c .before .before .before .before .before .before .before .before .before .before .before .before)) (fitting (c .before .before .before .before .before .before .before .before)) (plainly (c .before .before .before .before .before)) (sym (c .before .before .before .before .on-mark .ensures) ∙ not-true _ (c .before .before .before .if4 .taken)) in
+    let o : toZ w16 (ofZ w16 (s .od)) ≡ s .od = search (needs, c .before .struct-told3 .given, c .before .before .before .before .before .before .before .before .before .before .before .struct-told .given) in
+    let f : toZ w32 (ofZ w32 (s .frequency)) ≡ s .frequency = search (needs, c .before .struct-told3 .given, c .before .before .before .before .before .before .before .before .before .before .struct-told2 .given) in
+    (short-slave s (now (a .p)) (a .tick) h _ _ _ (c .before .before .label-left .ensures) o f, c .plain-answer .ensures ∙ short-reply s (now (a .p)) (a .tick) h)
 
-cold-slave-requires : tie.Need-cold-slave-requires
-cold-slave-requires c κs = search needs
+arrived-requires : tie.Need-arrived-requires
+arrived-requires c κs = search needs
 
 returns-2 : tie.Need-returns-2
-returns-2 c =
-    let a = c .before .before .before .before .args in
-    let q = packet-refused (a .s) (now (a .p)) (a .tick) (sym (c .before .before .is-sound .ensures) ∙ c .before .if1 .left) in
-    (c .cold-slave .ensures ∙ sym (ap (λ (r : Result). r .slave) q), sym (ap (λ (r : Result). r .reply) q))
+returns-2 c = search needs
 
 pub packet-spec : {M : Type 1} → statement M
 packet-spec =
     tie.close
     (tie.spec
-    is-sound-requires
+    settings-kept-requires
+    parts-fit-requires
     board-of-requires
-    in-force-requires
-    judge-packet-requires
-    step-requires
+    is-plain-requires
+    on-mark-requires
+    label-left-requires
+    plain-answer-requires
     returns
-    cold-slave-requires
+    arrived-requires
     returns-2)

@@ -1,10 +1,12 @@
 -- `slave::soundness::is_sound` meets its contract.
 -- Assumes nothing.
 use borrow.Author.Needs.{needs}
-use mathlib.Core.Path.{_≡_, sym, ap, _∙_}
-use native.Mathlib.Omega.{arith}
-use borrow.Author.Tests.{not-true, not-false, eq-eqb, ne-eqb, lt-ltb, le-ltb}
-use Rattle.slave.specs.Sound.{sound}
+use mathlib.Core.Path.{_≡_, sym, ap₂, _∙_}
+use lib.IntN.{ℤ}
+use borrow.Author.Tests.{not-true, not-false}
+use mir.Syntax.{w16, w32}
+use mir.Val.{toZ, ofZ}
+use Rattle.slave.specs.Sound.{partsFit, sound}
 use Rattle.slave.proofs.soundness.is_sound.Statement.{statement}
 use Rattle.slave.proofs.soundness.is_sound.Tie as tie
 
@@ -13,34 +15,20 @@ settings-kept-requires c κs = search needs
 
 returns : tie.Need-returns
 unfolding sound
-returns c = rw ((sym (c .before .settings-kept .ensures) ∙ not-true _ (c .if1 .taken)))
+returns c = rw (sym (c .before .settings-kept .ensures) ∙ not-true _ (c .if1 .taken))
 
-hunting-fits-requires : tie.Need-hunting-fits-requires
-hunting-fits-requires c κs = search needs
+parts-fit-requires : tie.Need-parts-fit-requires
+parts-fit-requires c κs = search needs
 
 returns-2 : tie.Need-returns-2
 unfolding sound
-returns-2 c = rw ((sym (c .before .before .before .before .settings-kept .ensures) ∙ not-false _ (c .before .before .before .if1 .left)), (eq-eqb _ _ (c .before .if2 .taken))) (c .hunting-fits .ensures)
-
-locked-fits-requires : tie.Need-locked-fits-requires
-locked-fits-requires c κs = search needs
-
-returns-3 : tie.Need-returns-3
-unfolding sound
-returns-3 c = rw ((sym (c .before .before .before .before .before .before .settings-kept .ensures) ∙ not-false _ (c .before .before .before .before .before .if1 .left)), (ne-eqb _ _ (c .before .before .before .if2 .left)), (eq-eqb _ _ (c .before .if3 .taken))) (c .locked-fits .ensures)
-
-returns-4 : tie.Need-returns-4
-unfolding sound
-returns-4 c = rw ((sym (c .before .before .before .before .before .settings-kept .ensures) ∙ not-false _ (c .before .before .before .before .if1 .left)), (ne-eqb _ _ (c .before .before .if2 .left)), (ne-eqb _ _ (c .if3 .left)))
+returns-2 c =
+    let s = c .before .before .before .before .before .args .s in
+    let o : toZ w16 (ofZ w16 (s .od)) ≡ s .od = search (needs, c .before .before .struct-told .given) in
+    let f : toZ w32 (ofZ w32 (s .frequency)) ≡ s .frequency = search (needs, c .before .struct-told2 .given) in
+    rw (sym (c .before .before .before .before .settings-kept .ensures) ∙ not-false _ (c .before .before .before .if1 .left))
+    (c .parts-fit .ensures
+    ∙ ap₂ (λ (od frequency : ℤ). partsFit (s .phase) (s .profile) (s .n) (s .tad) od frequency (s .power) (s .next) (s .pending) (s .index) (s .sts) (s .md)) o f)
 
 pub is-sound-spec : {M : Type 1} → statement M
-is-sound-spec =
-    tie.close
-    (tie.spec
-    settings-kept-requires
-    returns
-    hunting-fits-requires
-    returns-2
-    locked-fits-requires
-    returns-3
-    returns-4)
+is-sound-spec = tie.close (tie.spec settings-kept-requires returns parts-fit-requires returns-2)
