@@ -252,7 +252,6 @@ pub extern "C" fn probe_numbers(
 pub extern "C" fn probe_packet_in_place(s: &mut Slave, p: &[u8], tick: u32) -> ProbeAnswer
     ensures { λ r. ⌜ (now (s .exit) ≡ packetOf (now (s .entry)) (now (p .entry)) tick .slave) × (r ≡ flatAnswer (packetOf (now (s .entry)) (now (p .entry)) tick .reply)) ⌝ }
 {
-    let r = probe_packet(*s, p, tick);
-    *s = r.slave;
-    r.answer
+    let a = slave::packet_in_place(s, p, tick);
+    answer_of(a)
 }
