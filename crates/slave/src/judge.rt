@@ -122,10 +122,10 @@ pub(crate) fn is_plain(b: Board, p: &[u8], tick: u32) -> bool
     if error_indicator(p) != 0 {
         return false;
     }
-    if b.profile != 0 {
-        return true;
+    if b.profile == 0 {
+        return packet_identifier(p) != 0x15;
     }
-    packet_identifier(p) != 0x15
+    true
 }
 
 // A packet with its arrival tick. 4 comes before the PID, and profile 1 reads no MIP.

@@ -33,16 +33,16 @@ error-indicator-requires c κs = arrived-long _ _ _ (arrived c)
 returns-2 : tie.Need-returns-2
 returns-2 c = sym (plain-4 _ _ _ (arrived (c .before .before)) (λ e. c .if2 .taken (c .before .error-indicator .ensures ∙ e)))
 
-returns-3 : tie.Need-returns-3
-returns-3 c = sym (plain-a110 _ _ _ (arrived (c .before .before .before .before)) (whole (c .before .before)) (c .if3 .taken))
-
 packet-identifier-requires : tie.Need-packet-identifier-requires
 packet-identifier-requires c κs = arrived-long _ _ _ (arrived (c .before .before .before .before))
 
-returns-4 : tie.Need-returns-4
-returns-4 c =
+returns-3 : tie.Need-returns-3
+returns-3 c =
     ap (λ (i : ℕ). not (eqb i mipPid)) (c .packet-identifier .ensures)
-    ∙ sym (plain-by-pid _ _ _ (arrived (c .before .before .before .before .before)) (whole (c .before .before .before)) (c .before .if3 .left))
+    ∙ sym (plain-by-pid _ _ _ (arrived (c .before .before .before .before .before)) (whole (c .before .before .before)) (c .before .if3 .taken))
+
+returns-4 : tie.Need-returns-4
+returns-4 c = sym (plain-a110 _ _ _ (arrived (c .before .before .before .before)) (whole (c .before .before)) (c .if3 .left))
 
 pub is-plain-spec : {M : Type 1} → statement M
 is-plain-spec =
@@ -52,6 +52,6 @@ is-plain-spec =
     returns
     error-indicator-requires
     returns-2
-    returns-3
     packet-identifier-requires
+    returns-3
     returns-4)
