@@ -8,63 +8,18 @@ mod faults;
 #[path = "other/ground.rs"]
 mod ground;
 mod inputs;
+mod measure;
 mod probe;
 
 use ground::{Notice, Settings, A110_SECOND, DVB_SECOND};
 use inputs::{Moment, Random};
+use measure::{candidate, full_field, register_by_nibbles, table, INPUTS, ROUNDS};
 use std::hint::black_box;
-use std::time::Instant;
-
-/// Inputs of each kind, taken in turn, and calls in one round.
-const INPUTS: usize = 64;
-const CALLS: usize = 512;
-const ROUNDS: usize = 1_000;
 
 extern "C" {
     fn c_byte_table(s: *const u8, length: usize) -> u32;
     fn c_nibbles(s: *const u8, length: usize) -> u32;
     fn c_nibbles_in_order(s: *const u8, length: usize) -> u32;
-}
-
-/// The nibble tables again in Rust, for a plain reader and writer over the proved code's own check algorithm.
-static NIBBLES: [[u32; 16]; 16] = {
-    let mut table = [[0; 16]; 16];
-    let mut k = 0;
-    while k < 256 {
-        let (place, nibble) = (k / 16, k % 16);
-        let mut z = (nibble as u32) << (4 * (place % 8));
-        let mut bits = 32 + 32 * (place / 8);
-        while bits > 0 {
-            z = z << 1 ^ (z >> 31) * 0x04C1_1DB7;
-            bits -= 1;
-        }
-        table[place][nibble] = z;
-        k += 1;
-    }
-    table
-};
-
-/// Adds four bytes, taken through the tables, to the sum so far.
-#[inline(always)]
-fn add(sum: u32, four: u32, tables: &[[u32; 16]]) -> u32 {
-    (0..8).fold(sum, |sum, j| sum ^ tables[j][(four >> (4 * j) & 15) as usize])
-}
-
-#[inline(never)]
-fn register_by_nibbles(bytes: &[u8]) -> u32 {
-    let big_endian = |s: &[u8]| u32::from_be_bytes([s[0], s[1], s[2], s[3]]);
-    let mut z = u32::MAX;
-    let mut eights = bytes.chunks_exact(8);
-    for s in &mut eights {
-        // first what does not wait for z
-        let second = add(0, big_endian(&s[4..]), &NIBBLES[..8]);
-        z = add(second, z ^ big_endian(s), &NIBBLES[8..]);
-    }
-    for byte in eights.remainder() {
-        let top = (z >> 24) as u8 ^ byte;
-        z = z << 8 ^ NIBBLES[1][usize::from(top >> 4)] ^ NIBBLES[0][usize::from(top & 15)];
-    }
-    z
 }
 
 // The plain candidates, each behind a call, as the proved code is.
@@ -104,46 +59,6 @@ fn plain_a110_release(sts: u32, md: u32, od: i16, tad: u32, arrival: u32) -> pro
     ground::a110_release(sts, md, od, tad, arrival).into()
 }
 
-/// A candidate: its name, and one round of calls.
-type Candidate<'a> = (&'a str, Box<dyn Fn() -> f64 + 'a>);
-
-/// Nanoseconds a call over one round. The result is looked at where the call left it: copying it would be measured too.
-fn candidate<'a, T>(name: &'a str, call: impl Fn(usize) -> T + 'a) -> Candidate<'a> {
-    let round = move || {
-        let start = Instant::now();
-        for k in 0..CALLS {
-            black_box(&call(black_box(k % INPUTS)));
-        }
-        start.elapsed().as_nanos() as f64 / CALLS as f64
-    };
-    (name, Box::new(round))
-}
-
-/// One call's rows: the first candidate is the proved code, the others are what it is held to.
-fn table(what: &str, candidates: Vec<Candidate>) {
-    let mut best = vec![f64::INFINITY; candidates.len()];
-    for _ in 0..ROUNDS {
-        for (best, (_, round)) in best.iter_mut().zip(&candidates) {
-            *best = best.min(round());
-        }
-    }
-    for (k, (name, _)) in candidates.iter().enumerate().skip(1) {
-        let what = if k == 1 { what } else { "" };
-        println!("{what:<28} {:>8.1} {:>8.1}   {:>5.2}  {name}", best[0], best[k], best[0] / best[k]);
-    }
-}
-
-/// A field of 163 bytes: ten entries with a time offset, a frequency offset and a power, and one with none.
-fn full_field(r: &mut Random) -> Vec<u8> {
-    let mut field = Vec::new();
-    for _ in 0..10 {
-        let b = r.bytes(7);
-        field.extend([0, r.pick(&[0, 7, 8, 9]), 13, 0, 4, b[0], b[1], 1, 5, b[2], b[3], b[4], 2, 4, b[5], b[6]]);
-    }
-    field.extend([0, 7, 0]);
-    field
-}
-
 fn main() {
     let r = &mut Random(1);
     let bytes: Vec<Vec<u8>> = (0..INPUTS).map(|_| r.bytes(188)).collect();
@@ -160,9 +75,10 @@ fn main() {
         }
     }
 
-    println!("{:<28} {:>8} {:>8}   {:>5}", "nanoseconds a call", "proved", "plain", "ratio");
+    println!("{:<44} {:>8} {:>8}   {:>5}", "nanoseconds a call", "proved", "plain", "ratio");
     table(
         "check value, 188 bytes",
+        ROUNDS,
         vec![
             candidate("proved", |k| probe::register(&bytes[k])),
             candidate("C -O3, the same nibble tables, eight bytes a turn", |k| unsafe { c_nibbles(bytes[k].as_ptr(), 188) }),
@@ -179,6 +95,7 @@ fn main() {
         }
         table(
             &format!("read, a = {a}"),
+            ROUNDS,
             vec![
                 candidate("proved", |k| probe::read(&packets[k])),
                 candidate("Rust, byte table", |k| plain_read(&packets[k])),
@@ -198,6 +115,7 @@ fn main() {
         }
         table(
             &format!("write, a = {a}"),
+            ROUNDS,
             vec![
                 candidate("proved", |k| probe::write(black_box(&mut *ours.borrow_mut()), &notices[k], field(k))),
                 candidate("Rust, byte table", |k| plain_write(black_box(&mut *plain.borrow_mut()), &notices[k], field(k))),
@@ -208,11 +126,13 @@ fn main() {
     let before = Settings::default();
     table(
         "settings, 163 bytes",
+        ROUNDS,
         vec![candidate("proved", |k| probe::settings(&fields[k], 7, before)), candidate("Rust", |k| plain_settings(&fields[k], 7, before))],
     );
     let dvb = moments(r, DVB_SECOND, |m| ground::dvb_release(m.sts, m.md, m.od, m.tad, m.arrival).is_ok());
     table(
         "DVB release",
+        ROUNDS,
         vec![
             candidate("proved", |k| probe::dvb_release(dvb[k].sts, dvb[k].md, dvb[k].od, dvb[k].tad, dvb[k].arrival)),
             candidate("Rust", |k| plain_dvb_release(dvb[k].sts, dvb[k].md, dvb[k].od, dvb[k].tad, dvb[k].arrival)),
@@ -221,6 +141,7 @@ fn main() {
     let a110 = moments(r, A110_SECOND, |m| ground::a110_release(m.sts, m.md, m.od, m.tad, m.arrival).is_ok());
     table(
         "A/110 release",
+        ROUNDS,
         vec![
             candidate("proved", |k| probe::a110_release(a110[k].sts, a110[k].md, a110[k].od, a110[k].tad, a110[k].arrival)),
             candidate("Rust", |k| plain_a110_release(a110[k].sts, a110[k].md, a110[k].od, a110[k].tad, a110[k].arrival)),
