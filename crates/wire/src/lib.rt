@@ -1,7 +1,7 @@
 // Big-endian numbers, two's complement, and bytes put into a lent buffer: what every format here is made of.
 ghost use mathlib.Core.Path.{_≡_};
 ghost use Rattle.wire.specs.BigEndian.{be16, be24, be32, byte0, byte1, byte2, byte3};
-ghost use Rattle.wire.specs.Signed.{signed16, signed24};
+ghost use Rattle.wire.specs.Signed.{signed16, signed24, signed32, bits16, bits32};
 ghost use Rattle.wire.specs.Put.{putAt};
 
 // The number that two bytes spell.
@@ -74,6 +74,39 @@ pub fn signed_24(a: u8, b: u8, c: u8) -> i32
     }
     let w = 16777215 - v;
     -1 - (w as i32)
+}
+
+// The signed number that 32 bits mean.
+pub fn signed_32(v: u32) -> i32
+    ensures { λ r. ⌜ r ≡ signed32 v ⌝ }
+{
+    if v < 2147483648 {
+        return v as i32;
+    }
+    let w = 4294967295 - v;
+    -1 - (w as i32)
+}
+
+// The 16 bits of a signed number.
+pub fn bits_16(z: i16) -> u16
+    ensures { λ r. ⌜ r ≡ bits16 z ⌝ }
+{
+    if z < 0 {
+        let w = -1 - z;
+        return 65535 - (w as u16);
+    }
+    z as u16
+}
+
+// The 32 bits of a signed number.
+pub fn bits_32(z: i32) -> u32
+    ensures { λ r. ⌜ r ≡ bits32 z ⌝ }
+{
+    if z < 0 {
+        let w = -1 - z;
+        return 4294967295 - (w as u32);
+    }
+    z as u32
 }
 
 // A byte as a length or an index.
