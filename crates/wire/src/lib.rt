@@ -1,6 +1,6 @@
 // Big-endian numbers, two's complement, and bytes put into a lent buffer: what every format here is made of.
 ghost use mathlib.Core.Path.{_≡_};
-ghost use Rattle.wire.specs.BigEndian.{be16, be24, be32, byte0, byte1, byte2, byte3};
+ghost use Rattle.wire.specs.BigEndian.{be16, be24, be32, byte0, byte1, byte2, byte3, bytes16, bytes32};
 ghost use Rattle.wire.specs.Signed.{signed16, signed24, signed32, bits16, bits32};
 ghost use Rattle.wire.specs.Put.{putAt};
 
@@ -51,6 +51,21 @@ pub fn fourth_byte(w: u32) -> u8
     ensures { λ r. ⌜ r ≡ byte3 w ⌝ }
 {
     (w / 16777216 % 256) as u8
+}
+
+// The bytes of a number of 16 bits.
+pub fn bytes_16(w: u16) -> [u8; 2]
+    ensures { λ r. ⌜ r ≡ bytes16 w ⌝ }
+{
+    let v = w as u32;
+    [second_byte(v), low_byte(v)]
+}
+
+// The bytes of a number of 32 bits.
+pub fn bytes_32(w: u32) -> [u8; 4]
+    ensures { λ r. ⌜ r ≡ bytes32 w ⌝ }
+{
+    [fourth_byte(w), third_byte(w), second_byte(w), low_byte(w)]
 }
 
 // The signed number that 16 bits mean.

@@ -1,9 +1,8 @@
 -- `wire::bits_16` meets its contract.
 -- Assumes nothing.
-use mathlib.Core.Path.{_≡_, ap, _∙_}
-use Prim.Native.Nat.{ℕ, _-_, _≤_, _<_}
+use mathlib.Core.Path.{ap, _∙_}
+use Prim.Native.Nat.{ℕ, _-_}
 use native.Mathlib.Omega.{arith}
-use lib.Signed.{mag}
 use mir.Syntax.{w16}
 use Rattle.wire.proofs.Negative.{distance-fits, distance-cast, distance-is, from-top, same-cast, same-is}
 use Rattle.wire.proofs.bits_16.Statement.{statement}
