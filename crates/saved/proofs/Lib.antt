@@ -1,0 +1,4 @@
+-- The laws of crate `saved`, in the order in which they build on each other.
+pub mod Shape
+pub mod Fitting
+pub mod Answers
