@@ -11,13 +11,10 @@ use lib.Seq.{drop-cons}
 use borrow.Author.Tests.{leb-true, leb-false, le-leb, lt-leb}
 use Rattle.wire.specs.BigEndian.{be16, be16At, byte0, byte1}
 use Rattle.wire.proofs.Numbers.{of16, of24, of32}
+use Rattle.check_value.proofs.Laws.{Bytes}
 use Rattle.notice.specs.Mip.{individualAddressingLength, noticeOf}
 use Rattle.notice.specs.Writer.{flagsOf, headOf}
 use Rattle.notice.proofs.Sound.{Sound}
-
--- every element is a byte
-abbrev pub Bytes : List ℕ → Type 0
-Bytes s = (j : ℕ) → getD s j 0 < 256
 
 -- k elements from place i on
 abbrev pub elements : ℕ → ℕ → List ℕ → List ℕ
