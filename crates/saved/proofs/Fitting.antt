@@ -1,6 +1,6 @@
 -- A block that fits, test by test.
 -- Assumes nothing.
-use mathlib.Core.Path.{_≡_, refl, sym, ap, _∙_}
+use mathlib.Core.Path.{_≡_}
 use mathlib.Core.Bool.{Bool, true, false, _&&_}
 use mathlib.Core.List.{List}
 use Prim.Native.Nat.{ℕ}
@@ -8,7 +8,6 @@ use lib.Dec.{eqb}
 use borrow.Author.Tests.{eq-eqb, ne-eqb, eqb-true}
 use Rattle.check_value.specs.Register.{register}
 use Rattle.slave.specs.Sound.{sound}
-use Rattle.slave.specs.declared.Slave.{Slave}
 use Rattle.slave.proofs.Parts.{both}
 use Rattle.saved.specs.Block.{trailerSite, shaped, fromBody, held, blockFits}
 

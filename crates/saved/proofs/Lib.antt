@@ -2,3 +2,5 @@
 pub mod Shape
 pub mod Fitting
 pub mod Answers
+pub mod Body
+pub mod Resumed

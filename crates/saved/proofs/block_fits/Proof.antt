@@ -1,10 +1,9 @@
 -- `saved::block_fits` meets its contract.
 -- Assumes nothing.
 use borrow.Author.Needs.{needs}
-use mathlib.Core.Path.{_≡_, refl, sym, ap, _∙_}
+use mathlib.Core.Path.{sym, ap, _∙_}
 use native.Mathlib.Omega.{arith}
 use mathlib.Core.List.{List}
-use mathlib.Core.Bool.{true, false}
 use Prim.Native.Nat.{ℕ}
 use lib.ListN.{length}
 use denote.Ref.{now}
@@ -18,9 +17,6 @@ use Rattle.saved.proofs.Shape.{trailer-length, body-room}
 use Rattle.saved.proofs.Fitting.{fits-shape, fits-check, fits-site, fits-sound}
 use Rattle.saved.proofs.block_fits.Statement.{statement}
 use Rattle.saved.proofs.block_fits.Tie as tie
-
--- `saved::block_fits` meets its contract.
--- Assumes nothing.
 
 is-shaped-requires : tie.Need-is-shaped-requires
 is-shaped-requires c κs = search needs

@@ -1,8 +1,7 @@
 -- `saved::covered_of` meets its contract.
 -- Assumes nothing.
 use borrow.Author.Needs.{needs}
-use mathlib.Core.Path.{_≡_, refl, sym, ap, _∙_}
-use lib.IntN.{ℤ}
+use mathlib.Core.Path.{_≡_, ap, _∙_}
 use mir.Syntax.{w16, w32}
 use mir.Val.{toZ, ofZ}
 use Rattle.wire.specs.BigEndian.{bytes16, bytes32}
@@ -11,9 +10,6 @@ use Rattle.saved.specs.Layout.{bodyOf}
 use Rattle.saved.specs.Block.{coveredOf}
 use Rattle.saved.proofs.covered_of.Statement.{statement}
 use Rattle.saved.proofs.covered_of.Tie as tie
-
--- `saved::covered_of` meets its contract.
--- Assumes nothing.
 
 bytes-16-requires : tie.Need-bytes-16-requires
 bytes-16-requires c κs = search needs

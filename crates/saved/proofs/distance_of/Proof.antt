@@ -1,19 +1,15 @@
 -- `saved::distance_of` meets its contract.
 -- Assumes nothing.
 use borrow.Author.Needs.{needs}
-use mathlib.Core.Path.{_≡_, refl, sym, ap, _∙_}
+use mathlib.Core.Path.{ap, _∙_}
 use native.Mathlib.Omega.{arith}
 use mathlib.Core.List.{List}
 use Prim.Native.Nat.{ℕ}
-use lib.ListN.{length, length-drop}
 use denote.Ref.{now}
 use Rattle.wire.specs.BigEndian.{be16At}
 use Rattle.saved.proofs.Shape.{trailer-length}
 use Rattle.saved.proofs.distance_of.Statement.{statement}
 use Rattle.saved.proofs.distance_of.Tie as tie
-
--- `saved::distance_of` meets its contract.
--- Assumes nothing.
 
 trailer-of-requires : tie.Need-trailer-of-requires
 trailer-of-requires c κs = search needs

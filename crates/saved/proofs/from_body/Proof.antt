@@ -1,9 +1,8 @@
 -- `saved::from_body` meets its contract.
 -- Assumes nothing.
 use borrow.Author.Needs.{needs}
-use mathlib.Core.Path.{_≡_, refl, sym, ap, _∙_}
+use mathlib.Core.Path.{ap, _∙_}
 use native.Mathlib.Omega.{arith}
-use mathlib.Core.List.{List}
 use Prim.Native.Nat.{ℕ, _-_}
 use lib.ListN.{length, drop}
 use denote.Ref.{now}
@@ -11,9 +10,6 @@ use Rattle.saved.specs.Block.{fromBody}
 use Rattle.saved.proofs.Shape.{rest, shape-room}
 use Rattle.saved.proofs.from_body.Statement.{statement}
 use Rattle.saved.proofs.from_body.Tie as tie
-
--- `saved::from_body` meets its contract.
--- Assumes nothing.
 
 sub-start : tie.Need-sub-start
 sub-start c = omega (arith, shape-room _ (c .before .pre))

@@ -1,19 +1,15 @@
 -- `saved::is_shaped` meets its contract.
 -- Assumes nothing.
 use borrow.Author.Needs.{needs}
-use mathlib.Core.Path.{_≡_, refl, sym, ap, _∙_}
+use mathlib.Core.Path.{ap, _∙_}
 use native.Mathlib.Omega.{arith}
 use Prim.Native.Nat.{ℕ, _+_}
 use lib.Dec.{leb}
 use lib.ListN.{length}
 use denote.Ref.{now}
-use Rattle.saved.specs.Block.{shaped}
 use Rattle.saved.proofs.Shape.{shape-short, shape-near, shape-far}
 use Rattle.saved.proofs.is_shaped.Statement.{statement}
 use Rattle.saved.proofs.is_shaped.Tie as tie
-
--- `saved::is_shaped` meets its contract.
--- Assumes nothing.
 
 returns : tie.Need-returns
 returns c = shape-short (now (c .before .before .args .b)) (c .if1 .taken)

@@ -1,9 +1,8 @@
 -- `saved::resume` meets its contract.
 -- Assumes nothing.
 use borrow.Author.Needs.{needs}
-use mathlib.Core.Path.{_≡_, refl, sym, ap, _∙_}
+use mathlib.Core.Path.{sym, ap, _∙_}
 use native.Mathlib.Omega.{arith}
-use mathlib.Core.List.{List}
 use lib.ListN.{length}
 use denote.Ref.{now}
 use borrow.Author.Tests.{not-true, not-false}
@@ -16,9 +15,6 @@ use Rattle.saved.proofs.Fitting.{shape-of}
 use Rattle.saved.proofs.Answers.{resume-15, resume-16, resume-17, resume-held}
 use Rattle.saved.proofs.resume.Statement.{statement}
 use Rattle.saved.proofs.resume.Tie as tie
-
--- `saved::resume` meets its contract.
--- Assumes nothing.
 
 settings-kept-requires : tie.Need-settings-kept-requires
 settings-kept-requires c κs = search needs

@@ -1,13 +1,9 @@
 -- `saved::same_board` meets its contract.
 -- Assumes nothing.
-use mathlib.Core.Path.{_≡_, refl, sym, ap, _∙_}
 use borrow.Author.Tests.{eq-eqb, ne-eqb}
 use Rattle.saved.specs.Block.{sameBoard}
 use Rattle.saved.proofs.same_board.Statement.{statement}
 use Rattle.saved.proofs.same_board.Tie as tie
-
--- `saved::same_board` meets its contract.
--- Assumes nothing.
 
 -- `saved::same_board` meets its contract.
 -- Assumes nothing.

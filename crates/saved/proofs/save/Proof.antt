@@ -1,23 +1,16 @@
 -- `saved::save` meets its contract.
 -- Assumes nothing.
 use borrow.Author.Needs.{needs}
-use mathlib.Core.Path.{_≡_, refl, sym, ap, _∙_}
+use mathlib.Core.Path.{sym, _∙_}
 use native.Mathlib.Omega.{arith}
-use mathlib.Core.List.{List, _++_}
-use Prim.Native.Nat.{ℕ}
-use lib.ListN.{length, drop}
+use lib.ListN.{length}
 use denote.Ref.{now}
 use borrow.Author.Tests.{not-true, not-false}
-use Rattle.wire.specs.Reply.{reply, keptBy}
 use Rattle.wire.proofs.Puts.{put-fits}
 use Rattle.check_value.proofs.Sealing.{seal-fits}
-use Rattle.saved.specs.Block.{blockOf, saveOf, saveReply}
 use Rattle.saved.proofs.Answers.{save-15, save-18, save-none, block-put, answered, left}
 use Rattle.saved.proofs.save.Statement.{statement}
 use Rattle.saved.proofs.save.Tie as tie
-
--- `saved::save` meets its contract.
--- Assumes nothing.
 
 is-sound-requires : tie.Need-is-sound-requires
 is-sound-requires c κs = search needs

@@ -1,8 +1,7 @@
 -- `saved::slave_in` meets its contract.
 -- Assumes nothing.
 use borrow.Author.Needs.{needs}
-use mathlib.Core.Path.{_≡_, refl, sym, ap, _∙_}
-use lib.IntN.{ℤ}
+use mathlib.Core.Path.{_≡_, ap, _∙_}
 use lib.ListN.{getD}
 use mir.Syntax.{w16, w32}
 use mir.Val.{toZ, ofZ}
@@ -11,9 +10,6 @@ use Rattle.wire.specs.Signed.{signed16, signed32}
 use Rattle.saved.specs.Layout.{slaveIn}
 use Rattle.saved.proofs.slave_in.Statement.{statement}
 use Rattle.saved.proofs.slave_in.Tie as tie
-
--- `saved::slave_in` meets its contract.
--- Assumes nothing.
 
 shared-slice-read-t3 : tie.Need-shared-slice-read-t3
 shared-slice-read-t3 c = search needs

@@ -9,9 +9,6 @@ use Rattle.saved.proofs.trailer_of.Tie as tie
 -- `saved::trailer_of` meets its contract.
 -- Assumes nothing.
 
--- `saved::trailer_of` meets its contract.
--- Assumes nothing.
-
 sub-end : tie.Need-sub-end
 sub-end c = search needs
 
