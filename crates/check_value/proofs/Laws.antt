@@ -12,12 +12,9 @@ use lib.Bits.{bitXor, xor-lt, xor-self, xor-zero-r}
 use Rattle.check_value.specs.Register.{bitsIn, registerFrom, allOnes, register, sealed}
 use Rattle.wire.specs.BigEndian.{be32, byte0, byte1, byte2, byte3, bytes32}
 use Rattle.wire.proofs.Numbers.{spelled32}
+use Rattle.wire.proofs.Bytes.{Bytes}
 use Rattle.check_value.proofs.Xor.{xor-cancel, xor-same}
 use Rattle.check_value.proofs.Bits.{bits-fit, bits-linear, bits-injective, own-bits, four-bytes}
-
--- every element is a byte
-abbrev pub Bytes : List ℕ → Type 0
-Bytes xs = (j : ℕ) → getD xs j 0 < 2 ^ 8
 
 -- bytes after bytes
 pub register-append : (z : ℕ) (xs ys : List ℕ) → registerFrom z (xs ++ ys) ≡ registerFrom (registerFrom z xs) ys

@@ -1,13 +1,15 @@
 -- A number is the one that its bytes spell, and bytes are those of the number that they spell.
 -- Assumes nothing.
 use mathlib.Core.Path.{_≡_, refl, ap}
-use Prim.Native.Nat.{ℕ, _+_, _-_, _*_, _/_, _%_, _^_, _<_}
+use mathlib.Core.Bool.{Bool, true, false, cond}
+use Prim.Native.Nat.{ℕ, _+_, _-_, _/_, _%_, _^_, _<_}
 use native.Mathlib.Nat.{div-add-mod'}
 use native.Mathlib.Omega.{arith}
 use lib.Pow.{shr-shr}
+use lib.Dec.{ltb}
 use lib.IntN.{ℤ, pos, negsuc}
 use lib.Signed.{mag}
-use borrow.Author.Tests.{lt-ltb, le-ltb}
+use borrow.Author.Tests.{lt-ltb, le-ltb, ltb-false}
 use Rattle.wire.specs.BigEndian.{be16, be24, be32, byte0, byte1, byte2, byte3}
 use Rattle.wire.specs.Signed.{signed, bits}
 
@@ -44,3 +46,11 @@ module _ (half : ℕ) where
   pub bits-below : (z : ℤ) → mag z < half → bits (half + half) z < half + half
   bits-below (pos n) h = omega arith
   bits-below (negsuc n) h = omega arith
+
+  -- and bits are those of the number that they mean
+  pub bits-signed : (v : ℕ) → v < half + half → bits (half + half) (signed half (half + half) v) ≡ v
+  bits-signed v h = go (ltb v half) refl
+    where
+      go : (t : Bool) → ltb v half ≡ t → bits (half + half) (cond t (pos v) (negsuc (half + half - 1 - v))) ≡ v
+      go true e = refl
+      go false e = omega (arith, ltb-false v half e)
