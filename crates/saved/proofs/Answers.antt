@@ -14,7 +14,7 @@ use Rattle.check_value.specs.Register.{register, sealed}
 use Rattle.slave.specs.Sound.{settingsKept, sound, cold, hunting}
 use Rattle.slave.specs.declared.Slave.{Slave}
 use Rattle.saved.specs.Layout.{bodyOf}
-use Rattle.saved.specs.Block.{coveredOf, blockOf, saveRefusal, saveReply, saveOf, held, blockFits, sameBoard, resumeOf}
+use Rattle.saved.specs.Block.{blockLength, coveredOf, blockOf, saveRefusal, saveReply, saveOf, held, blockFits, sameBoard, resumeOf}
 
 -- ---- save
 
@@ -24,22 +24,22 @@ module _ (s : Slave) (room : ℕ) where
   save-15 e = rw e
 
   module _ (e : sound s ≡ true) where
-    pub save-18 : room < 38 → saveRefusal s room ≡ 18
+    pub save-18 : room < blockLength → saveRefusal s room ≡ 18
     unfolding saveRefusal
-    save-18 h = rw (e, lt-leb 38 room h)
+    save-18 h = rw (e, lt-leb blockLength room h)
 
-    pub save-none : 38 ≤ room → saveRefusal s room ≡ 0
+    pub save-none : blockLength ≤ room → saveRefusal s room ≡ 0
     unfolding saveRefusal
-    save-none h = rw (e, le-leb 38 room h)
+    save-none h = rw (e, le-leb blockLength room h)
 
 -- what a number answers and leaves
 pub answered : (s : Slave) (room k : ℕ) → saveRefusal s room ≡ k → saveReply s room ≡ reply k tt
 unfolding saveReply
 answered s room k e = ap (λ (j : ℕ). reply j tt) e
 
-pub left : (s : Slave) (out : List ℕ) (k : ℕ) → saveRefusal s (length out) ≡ k → saveOf s out ≡ keptBy k out (blockOf s ++ drop 38 out)
+pub left : (s : Slave) (out : List ℕ) (k : ℕ) → saveRefusal s (length out) ≡ k → saveOf s out ≡ keptBy k out (blockOf s ++ drop blockLength out)
 unfolding saveOf
-left s out k e = ap (λ (j : ℕ). keptBy j out (blockOf s ++ drop 38 out)) e
+left s out k e = ap (λ (j : ℕ). keptBy j out (blockOf s ++ drop blockLength out)) e
 
 pub covered-length : (s : Slave) → length (coveredOf s) ≡ 34
 unfolding coveredOf bodyOf

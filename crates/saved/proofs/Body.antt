@@ -1,15 +1,15 @@
--- The layout read in both directions: a slave's body is bytes, and they hold that slave.
+-- The layout read in both directions: a slave's body is bytes that hold that slave, and the slave that some bytes hold has them as its body.
 -- Assumes nothing.
-use mathlib.Core.Path.{_≡_, refl, _∙_}
+use mathlib.Core.Path.{_≡_, refl, ap, ap₂, _∙_}
 use mathlib.Core.List.{List, [], _∷_, _++_}
-use Prim.Native.Nat.{ℕ, zero, suc, _<_, _^_}
+use Prim.Native.Nat.{ℕ, _+_, _<_, _^_}
 use native.Mathlib.Omega.{arith}
+use lib.ListN.{getD}
 use lib.Signed.{mag}
-use Rattle.wire.specs.BigEndian.{byte0, byte1, byte2, byte3, bytes16, bytes32}
-use Rattle.wire.proofs.Numbers.{spelled16, spelled32, signed-bits}
-use Rattle.check_value.proofs.Laws.{Bytes}
+use Rattle.wire.proofs.Numbers.{spelled16, spelled32, of16, of32, signed-bits, bits-signed}
+use Rattle.wire.proofs.Bytes.{Bytes, no-bytes, and-byte, and-bytes, bytes-16, bytes-32, elements}
 use Rattle.slave.specs.declared.Slave.{Slave}
-use Rattle.saved.specs.Layout.{Field, byte, pair, word, numberIn, bytesOf, Part, Phase, Profile, Cadence, Site, Tad, Od, Frequency, Power, Next, Pending, Index, Sts, Md, fieldOf, bitsOf, slaveOf, fieldsOf, parts, bodyOf, slaveIn}
+use Rattle.saved.specs.Layout.{Field, byte, pair, word, numberIn, bytesOf, Part, Phase, Profile, Cadence, Site, Tad, Od, Frequency, Power, Next, Pending, Index, Sts, Md, fieldOf, bodyLength, bitsOf, slaveOf, fieldsOf, parts, bodyOf, slaveIn}
 
 abbrev pub rangeOf : Field → ℕ
 rangeOf (byte at) = 256
@@ -23,23 +23,6 @@ pub record Fits (s : Slave) : Type 0 where
   pub frequency : mag (s .frequency) < 2147483648
 
 -- ---- bytes
-
-no-bytes : Bytes []
-no-bytes j = omega arith
-
-pub and-byte : (x : ℕ) (xs : List ℕ) → x < 2 ^ 8 → Bytes xs → Bytes (x ∷ xs)
-and-byte x xs h k zero = h
-and-byte x xs h k (suc j) = k j
-
-pub and-bytes : (xs ys : List ℕ) → Bytes xs → Bytes ys → Bytes (xs ++ ys)
-and-bytes [] ys h k = k
-and-bytes (x ∷ xs) ys h k = and-byte x (xs ++ ys) (h 0) (and-bytes xs ys (λ j. h (suc j)) k)
-
-pub bytes-16 : (v : ℕ) → Bytes (bytes16 v)
-bytes-16 v = and-byte (byte1 v) (byte0 v ∷ []) (omega arith) (and-byte (byte0 v) [] (omega arith) no-bytes)
-
-pub bytes-32 : (v : ℕ) → Bytes (bytes32 v)
-bytes-32 v = and-byte (byte3 v) (byte2 v ∷ bytes16 v) (omega arith) (and-byte (byte2 v) (bytes16 v) (omega arith) (bytes-16 v))
 
 field-bytes : (f : Field) (v : ℕ) → v < rangeOf f → Bytes (bytesOf f v)
 field-bytes (byte at) v h = and-byte v [] h no-bytes
@@ -96,3 +79,54 @@ module _ (s : Slave) (f : Fits s) where
   pub slave-back : (rest : List ℕ) → slaveIn (bodyOf s ++ rest) ≡ s
   unfolding slaveIn
   slave-back rest = (λ i. slaveOf (λ p. part-back rest p i)) ∙ own-parts
+
+-- ---- the slave that some bytes hold has their first as its body
+
+module _ (b : List ℕ) (bytes : Bytes b) where
+  -- the bytes of a field, and of some parts
+  abbrev span : Field → List ℕ
+  span (byte at) = getD b at 0 ∷ []
+  span (pair at) = getD b at 0 ∷ getD b (at + 1) 0 ∷ []
+  span (word at) = getD b at 0 ∷ getD b (at + 1) 0 ∷ getD b (at + 2) 0 ∷ getD b (at + 3) 0 ∷ []
+
+  abbrev spans : List Part → List ℕ
+  spans [] = []
+  spans (p ∷ ps) = span (fieldOf p) ++ spans ps
+
+  number-fits : (f : Field) → numberIn b f < rangeOf f
+  number-fits (byte at) = bytes at
+  number-fits (pair at) = omega (arith, bytes at, bytes (at + 1))
+  number-fits (word at) = omega (arith, bytes at, bytes (at + 1), bytes (at + 2), bytes (at + 3))
+
+  field-again : (f : Field) → bytesOf f (numberIn b f) ≡ span f
+  field-again (byte at) = refl
+  field-again (pair at) =
+      let p = of16 (getD b at 0) (getD b (at + 1) 0) (bytes at) (bytes (at + 1)) in
+      λ i. p .0 i ∷ p .1 i ∷ []
+  field-again (word at) =
+      let p = of32 (getD b at 0) (getD b (at + 1) 0) (bytes at) (bytes (at + 1)) (getD b (at + 2) 0) (bytes (at + 2)) (getD b (at + 3) 0) (bytes (at + 3)) in
+      λ i. p .0 i ∷ p .1 i ∷ p .2 i ∷ p .3 i ∷ []
+
+  bits-again : (p : Part) → bitsOf (slaveIn b) p ≡ numberIn b (fieldOf p)
+  unfolding slaveIn
+  bits-again Phase = refl
+  bits-again Profile = refl
+  bits-again Cadence = refl
+  bits-again Site = refl
+  bits-again Tad = refl
+  bits-again Od = bits-signed 32768 (numberIn b (fieldOf Od)) (number-fits (fieldOf Od))
+  bits-again Frequency = bits-signed 2147483648 (numberIn b (fieldOf Frequency)) (number-fits (fieldOf Frequency))
+  bits-again Power = refl
+  bits-again Next = refl
+  bits-again Pending = refl
+  bits-again Index = refl
+  bits-again Sts = refl
+  bits-again Md = refl
+
+  fields-again : (ps : List Part) → fieldsOf (slaveIn b) ps ≡ spans ps
+  fields-again [] = refl
+  fields-again (p ∷ ps) = ap₂ _++_ (ap (bytesOf (fieldOf p)) (bits-again p) ∙ field-again (fieldOf p)) (fields-again ps)
+
+  pub body-again : bodyOf (slaveIn b) ≡ elements bodyLength 0 b
+  unfolding bodyOf
+  body-again = fields-again parts

@@ -43,6 +43,12 @@ module _ (b : List ℕ) where
       let p : Bool = shaped b && eqb (register (fromBody b)) 0 in
       eqb-true _ _ (both (shaped b) _ (both p _ (both (p && eqb (trailerSite b) (held b .site)) _ e .0) .0) .1)
 
+  pub site-of : blockFits b ≡ true → trailerSite b ≡ held b .site
+  unfolding blockFits
+  site-of e =
+      let p : Bool = shaped b && eqb (register (fromBody b)) 0 in
+      eqb-true _ _ (both p _ (both (p && eqb (trailerSite b) (held b .site)) _ e .0) .1)
+
   pub sound-of : blockFits b ≡ true → sound (held b) ≡ true
   unfolding blockFits
   sound-of e = both (shaped b && eqb (register (fromBody b)) 0 && eqb (trailerSite b) (held b .site)) _ e .1

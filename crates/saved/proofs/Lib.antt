@@ -4,3 +4,5 @@ pub mod Fitting
 pub mod Answers
 pub mod Body
 pub mod Resumed
+pub mod Accepted
+pub mod Examples

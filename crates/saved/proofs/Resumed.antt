@@ -20,35 +20,36 @@ use Rattle.wire.proofs.Numbers.{spelled16}
 use Rattle.wire.proofs.Tests.{passed, given-zero}
 use Rattle.check_value.specs.Register.{register}
 use Rattle.check_value.proofs.Sealing.{sealed-length}
-use Rattle.check_value.proofs.Laws.{Bytes, leaves-zero, flipped, misses-no-bit}
+use Rattle.wire.proofs.Bytes.{Bytes, and-bytes, bytes-16, bytes-32}
+use Rattle.check_value.proofs.Laws.{leaves-zero, flipped, misses-no-bit}
 use Rattle.slave.specs.Sound.{settingsKept, sound, hunting}
 use Rattle.slave.specs.Answer.{Moved}
 use Rattle.slave.specs.Calls.{boardOf}
 use Rattle.slave.specs.declared.Slave.{Slave}
 use Rattle.slave.proofs.Parts.{both, settings-hold, hunting-sound}
-use Rattle.saved.specs.Layout.{Site, bodyOf, slaveIn}
-use Rattle.saved.specs.Block.{coveredOf, blockOf, saveRefusal, saveReply, saveOf, trailer, trailerSite, distance, shaped, fromBody, held, blockFits, sameBoard, resumeOf}
+use Rattle.saved.specs.Layout.{Site, bodyLength, bodyOf, slaveIn}
+use Rattle.saved.specs.Block.{trailerLength, blockLength, coveredOf, blockOf, saveRefusal, saveReply, saveOf, trailer, trailerSite, distance, shaped, fromBody, held, blockFits, sameBoard, resumeOf}
 use Rattle.saved.proofs.Shape.{shape-far, shape-room}
 use Rattle.saved.proofs.Fitting.{fits-sound, shape-of, check-of, sound-of}
 use Rattle.saved.proofs.Answers.{covered-length, left, resume-16, resume-17, resume-held}
-use Rattle.saved.proofs.Body.{Fits, and-bytes, bytes-16, bytes-32, body-bytes, slave-back}
+use Rattle.saved.proofs.Body.{Fits, body-bytes, slave-back}
 
 -- ---- the block that a slave makes, with any bytes in front
 
-pub block-length : (s : Slave) → length (blockOf s) ≡ 38
+pub block-length : (s : Slave) → length (blockOf s) ≡ blockLength
 unfolding blockOf
 block-length s = sealed-length (coveredOf s) ∙ ap (λ (k : ℕ). k + 4) (covered-length s)
 
 module _ (s : Slave) (f : Fits s) (front : List ℕ) where
-  behind-length : length (front ++ blockOf s) ≡ length front + 38
+  behind-length : length (front ++ blockOf s) ≡ length front + blockLength
   behind-length = length-append front (blockOf s) ∙ ap (λ (k : ℕ). length front + k) (block-length s)
 
-  own-trailer : trailer (front ++ blockOf s) ≡ drop 30 (blockOf s)
+  own-trailer : trailer (front ++ blockOf s) ≡ drop bodyLength (blockOf s)
   own-trailer =
-      let k : length (front ++ blockOf s) - 8 ≡ length front + 30 = omega (arith, behind-length) in
-      ap (λ (j : ℕ). drop j (front ++ blockOf s)) k ∙ drop-append-add front (blockOf s) 30
+      let k : length (front ++ blockOf s) - trailerLength ≡ length front + bodyLength = omega (arith, behind-length) in
+      ap (λ (j : ℕ). drop j (front ++ blockOf s)) k ∙ drop-append-add front (blockOf s) bodyLength
 
-  own-distance : distance (front ++ blockOf s) ≡ 30
+  own-distance : distance (front ++ blockOf s) ≡ bodyLength
   unfolding blockOf coveredOf bodyOf
   own-distance = ap (λ (t : List ℕ). be16At t 2) own-trailer
 
@@ -59,12 +60,12 @@ module _ (s : Slave) (f : Fits s) (front : List ℕ) where
   own-shape : shaped (front ++ blockOf s) ≡ true
   own-shape =
       sym (shape-far (front ++ blockOf s) (omega (arith, own-distance)))
-      ∙ le-leb (distance (front ++ blockOf s) + 8) (length (front ++ blockOf s)) (omega (arith, own-distance, behind-length))
+      ∙ le-leb (distance (front ++ blockOf s) + trailerLength) (length (front ++ blockOf s)) (omega (arith, own-distance, behind-length))
 
   own-body : fromBody (front ++ blockOf s) ≡ blockOf s
   unfolding fromBody
   own-body =
-      let k : length (front ++ blockOf s) - 8 - distance (front ++ blockOf s) ≡ length front = omega (arith, own-distance, behind-length) in
+      let k : length (front ++ blockOf s) - trailerLength - distance (front ++ blockOf s) ≡ length front = omega (arith, own-distance, behind-length) in
       ap (λ (j : ℕ). drop j (front ++ blockOf s)) k ∙ drop-append-seam front (blockOf s)
 
   own-check : register (fromBody (front ++ blockOf s)) ≡ 0
@@ -75,7 +76,7 @@ module _ (s : Slave) (f : Fits s) (front : List ℕ) where
   unfolding blockOf coveredOf bodyOf
   own-slave =
       ap slaveIn own-body
-      ∙ slave-back s f (bytes16 (s .site) ++ bytes16 30 ++ bytes32 (register (coveredOf s)))
+      ∙ slave-back s f (bytes16 (s .site) ++ bytes16 bodyLength ++ bytes32 (register (coveredOf s)))
 
   own-fits : sound s ≡ true → blockFits (front ++ blockOf s) ≡ true
   own-fits e =
@@ -85,20 +86,20 @@ module _ (s : Slave) (f : Fits s) (front : List ℕ) where
 
 -- ---- a save that was accepted
 
-saved-block : (s : Slave) (out : List ℕ) → saveReply s (length out) ≡ given tt → (sound s ≡ true) × (take 38 (saveOf s out) ≡ blockOf s)
+saved-block : (s : Slave) (out : List ℕ) → saveReply s (length out) ≡ given tt → (sound s ≡ true) × (take blockLength (saveOf s out) ≡ blockOf s)
 unfolding saveReply saveRefusal
 saved-block s out e =
     let none = given-zero (saveRefusal s (length out)) tt tt e .0 in (
       passed (sound s) _ _ none .0,
-      ap (take 38) (left s out 0 none) ∙ take-at (blockOf s) (drop 38 out) 38 (block-length s),
+      ap (take blockLength) (left s out 0 none) ∙ take-at (blockOf s) (drop blockLength out) blockLength (block-length s),
     )
 
 -- a block of exactly its own bytes that fits leaves zero as a whole: no other distance leads to a body
-exact : (d : List ℕ) → length d ≡ 38 → blockFits d ≡ true → register d ≡ 0
+exact : (d : List ℕ) → length d ≡ blockLength → blockFits d ≡ true → register d ≡ 0
 unfolding fromBody
 exact d h e =
     let r = shape-room d (shape-of d e) in
-    let k : length d - 8 - distance d ≡ 0 = omega arith in
+    let k : length d - trailerLength - distance d ≡ 0 = omega arith in
     sym (ap (λ (j : ℕ). register (drop j d)) k) ∙ check-of d e
 
 -- ---- the board
@@ -124,10 +125,10 @@ fails false h = refl
 module _ (s : Slave) (f : Fits s) (out : List ℕ) (e : saveReply s (length out) ≡ given tt) where
   module _ (front : List ℕ) where
     -- what resume makes of the saved block is what it makes of the slave's own
-    same-block : (profile n site tad : ℕ) → resumeOf (front ++ take 38 (saveOf s out)) profile n site tad ≡ resumeOf (front ++ blockOf s) profile n site tad
+    same-block : (profile n site tad : ℕ) → resumeOf (front ++ take blockLength (saveOf s out)) profile n site tad ≡ resumeOf (front ++ blockOf s) profile n site tad
     same-block profile n site tad = ap (λ (b : List ℕ). resumeOf (front ++ b) profile n site tad) (saved-block s out e .1)
 
-    pub saved-resumes : resumeOf (front ++ take 38 (saveOf s out)) (s .profile) (s .n) (s .site) (s .tad) ≡ record { slave = s; reply = given tt }
+    pub saved-resumes : resumeOf (front ++ take blockLength (saveOf s out)) (s .profile) (s .n) (s .site) (s .tad) ≡ record { slave = s; reply = given tt }
     saved-resumes =
         let ok = saved-block s out e .0 in
         let own = own-slave s f front in
@@ -138,7 +139,7 @@ module _ (s : Slave) (f : Fits s) (out : List ℕ) (e : saveReply s (length out)
 
     pub another-board : (profile n site tad : ℕ) → settingsKept profile n site tad ≡ true
         → ((s .site ≡ site) × (s .profile ≡ profile) × (s .n ≡ n) × (s .tad ≡ tad) → ⊥)
-        → resumeOf (front ++ take 38 (saveOf s out)) profile n site tad ≡ record { slave = hunting profile n site tad; reply = refused 17 }
+        → resumeOf (front ++ take blockLength (saveOf s out)) profile n site tad ≡ record { slave = hunting profile n site tad; reply = refused 17 }
     another-board profile n site tad kept other =
         same-block profile n site tad
         ∙ resume-17 (front ++ blockOf s) profile n site tad kept (own-fits s f front (saved-block s out e .0))
@@ -149,11 +150,11 @@ module _ (s : Slave) (f : Fits s) (out : List ℕ) (e : saveReply s (length out)
   unfolding blockOf coveredOf
   block-bytes =
       and-bytes (coveredOf s) (bytes32 (register (coveredOf s)))
-      (and-bytes (bodyOf s ++ bytes16 (s .site)) (bytes16 30) (and-bytes (bodyOf s) (bytes16 (s .site)) (body-bytes s f) (bytes-16 (s .site))) (bytes-16 30))
+      (and-bytes (bodyOf s ++ bytes16 (s .site)) (bytes16 bodyLength) (and-bytes (bodyOf s) (bytes16 (s .site)) (body-bytes s f) (bytes-16 (s .site))) (bytes-16 bodyLength))
       (bytes-32 (register (coveredOf s)))
 
-  pub one-bit : (i k : ℕ) → i < 38 → k < 8 → (profile n site tad : ℕ) → settingsKept profile n site tad ≡ true
-      → resumeOf (flipped (take 38 (saveOf s out)) i k) profile n site tad ≡ record { slave = hunting profile n site tad; reply = refused 16 }
+  pub one-bit : (i k : ℕ) → i < blockLength → k < 8 → (profile n site tad : ℕ) → settingsKept profile n site tad ≡ true
+      → resumeOf (flipped (take blockLength (saveOf s out)) i k) profile n site tad ≡ record { slave = hunting profile n site tad; reply = refused 16 }
   unfolding blockOf
   one-bit i k hi hk profile n site tad kept =
       ap (λ (b : List ℕ). resumeOf (flipped b i k) profile n site tad) (saved-block s out e .1)

@@ -8,8 +8,8 @@ ghost use Prim.Native.Nat.{_+_, _≤_};
 ghost use lib.ListN.{length};
 ghost use Rattle.wire.specs.BigEndian.{be16At, be32At};
 ghost use Rattle.slave.specs.Answer.{outcomeOf};
-ghost use Rattle.saved.specs.Layout.{slaveIn};
-ghost use Rattle.saved.specs.Block.{coveredOf, saveReply, saveOf, trailer, distance, shaped, fromBody, blockFits, sameBoard, resumeOf};
+ghost use Rattle.saved.specs.Layout.{bodyLength, slaveIn};
+ghost use Rattle.saved.specs.Block.{trailerLength, coveredOf, saveReply, saveOf, trailer, distance, shaped, fromBody, blockFits, sameBoard, resumeOf};
 
 // Body through distance.
 fn covered_of(s: Slave) -> [u8; 34]
@@ -96,7 +96,7 @@ fn word_at(b: &[u8], i: usize) -> u32
 
 // The last 8 bytes.
 fn trailer_of(b: &[u8]) -> &[u8]
-    requires { ⌜ 8 ≤ length (now b) ⌝ }
+    requires { ⌜ trailerLength ≤ length (now b) ⌝ }
     ensures { λ r. ⌜ now r ≡ trailer (now (b .entry)) ⌝ }
 {
     let end = b.len() - 8;
@@ -105,7 +105,7 @@ fn trailer_of(b: &[u8]) -> &[u8]
 
 // How far before the trailer the body begins.
 fn distance_of(b: &[u8]) -> u16
-    requires { ⌜ 8 ≤ length (now b) ⌝ }
+    requires { ⌜ trailerLength ≤ length (now b) ⌝ }
     ensures { λ r. ⌜ r ≡ distance (now (b .entry)) ⌝ }
 {
     let t = trailer_of(b);
@@ -137,7 +137,7 @@ fn from_body(b: &[u8]) -> &[u8]
 
 // The slave whose body these bytes begin with.
 fn slave_in(b: &[u8]) -> Slave
-    requires { ⌜ 30 ≤ length (now b) ⌝ }
+    requires { ⌜ bodyLength ≤ length (now b) ⌝ }
     ensures { λ r. ⌜ r ≡ slaveIn (now (b .entry)) ⌝ }
 {
     Slave {

@@ -5,9 +5,6 @@ use Rattle.saved.specs.Block.{sameBoard}
 use Rattle.saved.proofs.same_board.Statement.{statement}
 use Rattle.saved.proofs.same_board.Tie as tie
 
--- `saved::same_board` meets its contract.
--- Assumes nothing.
-
 returns : tie.Need-returns
 unfolding sameBoard
 returns c = rw (ne-eqb _ _ (c .if1 .taken))

@@ -6,9 +6,6 @@ use Rattle.saved.proofs.Shape.{rest}
 use Rattle.saved.proofs.trailer_of.Statement.{statement}
 use Rattle.saved.proofs.trailer_of.Tie as tie
 
--- `saved::trailer_of` meets its contract.
--- Assumes nothing.
-
 sub-end : tie.Need-sub-end
 sub-end c = search needs
 
