@@ -12,6 +12,7 @@ use lib.Bits.{bitXor, xor-lt, xor-self, xor-zero-r}
 use Rattle.check_value.specs.Register.{bitsIn, registerFrom, allOnes, register, sealed}
 use Rattle.wire.specs.BigEndian.{be32, byte0, byte1, byte2, byte3, bytes32}
 use Rattle.wire.proofs.Numbers.{spelled32}
+use Rattle.wire.proofs.Bytes.{Bytes}
 use Rattle.check_value.proofs.Xor.{xor-cancel, xor-same}
 use Rattle.check_value.proofs.Bits.{bits-fit, bits-linear, bits-injective, own-bits, four-bytes}
 
@@ -91,7 +92,7 @@ byte-injective z a b ha hb e =
     xor-same a b (omega (arith, mod-eq-of-lt small))
 
 -- another byte in one place, from any register
-from-one-byte : (xs : List ℕ) (z i b : ℕ) → z < 2 ^ 32 → i < length xs → ((j : ℕ) → getD xs j 0 < 2 ^ 8) → b < 2 ^ 8
+from-one-byte : (xs : List ℕ) (z i b : ℕ) → z < 2 ^ 32 → i < length xs → Bytes xs → b < 2 ^ 8
     → registerFrom z (set xs i b) ≡ registerFrom z xs → b ≡ getD xs i 0
 unfolding registerFrom
 from-one-byte [] z i b hz h bytes hb e = absurd (not-suc-le-zero h)
@@ -102,16 +103,23 @@ from-one-byte (x ∷ xs) z (suc i) b hz h bytes hb e =
     from-one-byte xs (bitsIn 8 z x) i b (bits-fit 8 z x hz) (le-of-suc-le-suc h) (λ j. bytes (suc j)) hb e
 
 -- another byte in one place gives another register
-pub one-byte : (xs : List ℕ) (i b : ℕ) → i < length xs → ((j : ℕ) → getD xs j 0 < 2 ^ 8) → b < 2 ^ 8
+pub one-byte : (xs : List ℕ) (i b : ℕ) → i < length xs → Bytes xs → b < 2 ^ 8
     → register (set xs i b) ≡ register xs → b ≡ getD xs i 0
 unfolding register
 one-byte xs i b = from-one-byte xs allOnes i b (omega arith)
 
+-- a list with bit k of its byte i flipped
+abbrev pub flipped : List ℕ → ℕ → ℕ → List ℕ
+flipped xs i k = set xs i (bitXor (getD xs i 0) (2 ^ k))
+
+-- a number with a bit flipped is another
+pub flip-differs : (x k : ℕ) → bitXor x (2 ^ k) ≡ x → ⊥
+flip-differs x k e =
+    let none : 2 ^ k ≡ 0 = xor-cancel x (2 ^ k) 0 (e ∙ sym (xor-zero-r x)) in
+    omega (arith, pow-pos k)
+
 -- one bit changed gives another register
-pub misses-no-bit : (xs : List ℕ) (i k : ℕ) → i < length xs → k < 8 → ((j : ℕ) → getD xs j 0 < 2 ^ 8)
-    → register (set xs i (bitXor (getD xs i 0) (2 ^ k))) ≡ register xs → ⊥
+pub misses-no-bit : (xs : List ℕ) (i k : ℕ) → i < length xs → k < 8 → Bytes xs → register (flipped xs i k) ≡ register xs → ⊥
 misses-no-bit xs i k h hk bytes e =
     let x : ℕ = getD xs i 0 in
-    let same : bitXor x (2 ^ k) ≡ x = one-byte xs i (bitXor x (2 ^ k)) h bytes (xor-lt 8 x (2 ^ k) (bytes i) (pow-lt hk)) e in
-    let none : 2 ^ k ≡ 0 = xor-cancel x (2 ^ k) 0 (same ∙ sym (xor-zero-r x)) in
-    omega (arith, pow-pos k)
+    flip-differs x k (one-byte xs i (bitXor x (2 ^ k)) h bytes (xor-lt 8 x (2 ^ k) (bytes i) (pow-lt hk)) e)

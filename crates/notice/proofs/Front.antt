@@ -7,27 +7,13 @@ use Prim.Native.Nat.{ℕ, zero, suc, _+_, _-_, _*_, _/_, _%_, _≤_, _<_, _^_}
 use native.Mathlib.Omega.{arith}
 use lib.Dec.{leb}
 use lib.ListN.{length, take, drop, getD}
-use lib.Seq.{drop-cons}
 use borrow.Author.Tests.{leb-true, leb-false, le-leb, lt-leb}
 use Rattle.wire.specs.BigEndian.{be16, be16At, byte0, byte1}
 use Rattle.wire.proofs.Numbers.{of16, of24, of32}
+use Rattle.wire.proofs.Bytes.{Bytes, elements}
 use Rattle.notice.specs.Mip.{individualAddressingLength, noticeOf}
 use Rattle.notice.specs.Writer.{flagsOf, headOf}
 use Rattle.notice.proofs.Sound.{Sound}
-
--- every element is a byte
-abbrev pub Bytes : List ℕ → Type 0
-Bytes s = (j : ℕ) → getD s j 0 < 256
-
--- k elements from place i on
-abbrev pub elements : ℕ → ℕ → List ℕ → List ℕ
-elements zero i s = []
-elements (suc k) i s = getD s i 0 ∷ elements k (suc i) s
-
-pub elements-are : (k i : ℕ) (s : List ℕ) → i + k ≤ length s → take k (drop i s) ≡ elements k i s
-elements-are zero i s h = refl
-elements-are (suc k) i s h =
-    ap (take (suc k)) (drop-cons s i 0 (omega arith)) ∙ ap (λ (l : List ℕ). getD s i 0 ∷ l) (elements-are k (suc i) s (omega arith))
 
 -- flag and reserved bits make the two bytes again
 flags-again : (a b : ℕ) (t : Bool) → leb 128 a ≡ t → a < 256 → b < 256 → cond t (32768 + be16 a b % 32768) (be16 a b % 32768) ≡ be16 a b

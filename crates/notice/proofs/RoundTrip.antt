@@ -9,12 +9,11 @@ use mathlib.Core.Path.{_≡_, refl, sym, ap, ap₂, _∙_, subst}
 use mathlib.Core.Bool.{Bool, true, false, cond}
 use mathlib.Core.List.{List, [], _∷_, _++_, append-assoc}
 use Prim.Native.Nat.{ℕ, zero, suc, _+_, _-_, _*_, _/_, _%_, _≤_, _<_, _^_}
-use native.Mathlib.Decide.{ℕ-discrete, decLt}
+use native.Mathlib.Decide.{ℕ-discrete}
 use native.Mathlib.Omega.{arith}
-use lib.Bits.{bitXor, xor-zero-r}
-use lib.Pow.{pow-pos}
+use lib.Bits.{bitXor}
 use lib.Dec.{leb, ltb}
-use lib.ListN.{length, take, drop, getD, set, length-append, length-take, length-drop, length-set, take-append-drop, List·getD-eq-default}
+use lib.ListN.{length, take, drop, getD, set, length-append, length-drop, length-set, take-append-drop}
 use lib.Seq.{take-at, take-add, take-append-le, length-take-le, getD-take, getD-set-same, getD-set-other, take-set-lt}
 use borrow.Author.Tests.{leb-true, le-leb, lt-leb, ltb-true}
 use Rattle.wire.specs.Reply.{Reply, refused, given, reply}
@@ -22,10 +21,10 @@ use Rattle.wire.specs.Standards.{dvbSecond}
 use Rattle.wire.specs.BigEndian.{be16, byte0, byte1, bytes32}
 use Rattle.wire.proofs.Tests.{kept-new}
 use Rattle.wire.proofs.Numbers.{spelled16, spelled24, spelled32}
+use Rattle.wire.proofs.Bytes.{Bytes, take-bytes, elements, elements-are}
 use Rattle.check_value.specs.Register.{register, sealed}
 use Rattle.check_value.proofs.Sealing.{sealed-length}
-use Rattle.check_value.proofs.Laws.{leaves-zero, zero-only, misses-no-bit}
-use Rattle.check_value.proofs.Xor.{xor-cancel}
+use Rattle.check_value.proofs.Laws.{leaves-zero, zero-only, flipped, flip-differs, misses-no-bit}
 use Rattle.times.specs.Release.{inSecond}
 use Rattle.addressing.specs.Entries.{wellFormed}
 use Rattle.notice.specs.Mip.{individualAddressingLength, addressingField, throughCheck, noticeOf}
@@ -35,7 +34,7 @@ use Rattle.notice.specs.Writer.{writeRefusal, flagsOf, headOf, fieldsOf,
 use Rattle.notice.specs.declared.Notice.{Notice}
 use Rattle.notice.proofs.Sound.{Sound, accepted-sound, sound-accepted, sound-reads, reads-sound}
 use Rattle.notice.proofs.Writing.{head-length, fields-length, length-stuffing, judged, write-fits, write-none}
-use Rattle.notice.proofs.Front.{Bytes, elements, elements-are, head-again}
+use Rattle.notice.proofs.Front.{head-again}
 
 -- ---- written, then read
 
@@ -221,23 +220,6 @@ module _ (s : List ℕ) (n : Notice) (e : readOf s ≡ given n) (bytes : Bytes s
       ∙ ap (λ (x : List ℕ). x ++ drop 188 out) (same-packet rest)
 
 -- ---- one bit
-
--- a list with bit k of its byte i flipped
-abbrev pub flipped : List ℕ → ℕ → ℕ → List ℕ
-flipped s i k = set s i (bitXor (getD s i 0) (2 ^ k))
-
--- a number with a bit flipped is another
-flip-differs : (x k : ℕ) → bitXor x (2 ^ k) ≡ x → ⊥
-flip-differs x k e =
-    let none : 2 ^ k ≡ 0 = xor-cancel x (2 ^ k) 0 (e ∙ sym (xor-zero-r x)) in
-    omega (arith, pow-pos k)
-
-take-bytes : (m : ℕ) (s : List ℕ) → Bytes s → Bytes (take m s)
-take-bytes m s bytes j = go (decLt j m)
-  where
-    go : Dec (j < m) → getD (take m s) j 0 < 256
-    go (yes h) = subst (λ (x : ℕ). x < 256) (sym (getD-take m s j 0 h)) (bytes j)
-    go (no h) = subst (λ (x : ℕ). x < 256) (sym (List·getD-eq-default (take m s) 0 {n = j} (omega (arith, length-take m s)))) (omega arith)
 
 module _ (s : List ℕ) (bytes : Bytes s) (k : Sound s) (i b : ℕ) (hi : i ≤ 24 + individualAddressingLength s) (hb : b < 8) where
   -- a flip in the length of the addressing field is caught by the section's length

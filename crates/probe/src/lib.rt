@@ -1,5 +1,6 @@
 // The calls for programs in other languages, so that another implementation can be compared with them and speed can be measured.
 // For tests: it is no part of what a board links.
+pub mod saves;
 pub mod slaves;
 
 use addressing::Settings;

@@ -178,7 +178,7 @@ fn answer_of(a: Answer) -> ProbeAnswer
     }
 }
 
-fn outcome_number(o: Outcome) -> u8
+pub(crate) fn outcome_number(o: Outcome) -> u8
     ensures { λ r. ⌜ r ≡ numberOf (outcomeOf o) ⌝ }
 {
     match o {

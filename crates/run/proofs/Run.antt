@@ -14,13 +14,14 @@ use Rattle.slave.specs.Gap.{gapped}
 use Rattle.slave.specs.Calls.{boardOf, inForce, startOf, packetOf, numbersOf, gapOf}
 use Rattle.slave.specs.declared.Slave.{Slave}
 use Rattle.slave.specs.declared.Board.{Board}
+use Rattle.slave.proofs.Parts.{hunting-sound}
 use Rattle.run.specs.Adapter.{Adapter}
 use Rattle.run.specs.Book.{Arrival, packet, numbers, Call, at, gap, Verdict, kept, plain, ignored, taken, judged, verdict, Book, closed, odOf, turns}
 use Rattle.run.specs.Run.{hear, leave, leaves, begun, AllGenuine, Run}
 use Rattle.run.specs.Claim.{Timed, Right, RightReply, RightCall, toldExactly, Followed, Released, Demand3}
 use Rattle.run.proofs.Tests.{yes}
 use Rattle.run.proofs.Judging.{taken-fits}
-use Rattle.run.proofs.Sound.{settings-kept, either-phase, some-packets, step-sound, gap-sound, hunting-sound}
+use Rattle.run.proofs.Sound.{settings-kept, either-phase, some-packets, step-sound, gap-sound}
 use Rattle.run.proofs.Steps.{tickOf, stepped, moved, moves, moves-board, RightStep, any-cadence}
 
 -- ---- on a sound slave a call is its step, and leaves a sound slave

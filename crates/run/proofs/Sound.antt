@@ -12,7 +12,7 @@ use Rattle.times.specs.Release.{inSecond}
 use Rattle.cadence.specs.Cadence.{admits}
 use Rattle.cadence.specs.Label.{labelOf}
 use Rattle.cadence.proofs.Lengths.{admitted-range}
-use Rattle.slave.specs.Sound.{second, delayKept, settingsKept, isZero, frequencyFits, indexFits, pendingFits, huntingFits, lockedFits, partsFit, sound, hunting}
+use Rattle.slave.specs.Sound.{second, delayKept, settingsKept, isZero, frequencyFits, indexFits, pendingFits, huntingFits, lockedFits, partsFit, sound}
 use Rattle.slave.specs.Answer.{Notice, Result}
 use Rattle.slave.specs.Step.{raised, indexAt, agrees, passed, unheard, counted, took, stepOf}
 use Rattle.slave.specs.Gap.{toMark, gapped}
@@ -183,9 +183,3 @@ module _ (s : Slave) (ok : sound s ≡ true) where
         held = kept-if (s .profile) (s .tad) (s .od) (s .pending) (s .sts) (s .md) (l .held) (leb k (toMark (s .n) (s .next)));
       }))
       (λ e. ok)
-
--- ---- what an accepted start gives
-
-pub hunting-sound : (profile n site tad : ℕ) → settingsKept profile n site tad ≡ true → sound (hunting profile n site tad) ≡ true
-unfolding sound partsFit huntingFits isZero
-hunting-sound profile n site tad e = join e refl

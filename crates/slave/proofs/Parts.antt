@@ -9,7 +9,7 @@ use borrow.Author.Tests.{eqb-true, eqb-false, eq-eqb, ne-eqb, ltb-true}
 use Rattle.times.specs.Release.{inSecond}
 use Rattle.cadence.specs.Cadence.{admits}
 use Rattle.cadence.proofs.Lengths.{admitted-range}
-use Rattle.slave.specs.Sound.{second, isZero, frequencyFits, indexFits, settingsKept, huntingFits, lockedFits, partsFit, sound}
+use Rattle.slave.specs.Sound.{second, isZero, frequencyFits, indexFits, settingsKept, huntingFits, lockedFits, partsFit, sound, hunting}
 use Rattle.slave.specs.declared.Slave.{Slave}
 
 -- both sides of a conjunction
@@ -76,3 +76,8 @@ module _ (s : Slave) (k : sound s ≡ true) where
           let z : s .next ≡ 0 = hunting-next (hunts (eqb-true (s .phase) 1 e)) in
           omega (arith, cadence-range)
       go false e = locked-next (locked (eqb-false (s .phase) 1 e) .1)
+
+-- what an accepted start gives
+pub hunting-sound : (profile n site tad : ℕ) → settingsKept profile n site tad ≡ true → sound (hunting profile n site tad) ≡ true
+unfolding sound partsFit huntingFits isZero
+hunting-sound profile n site tad e = rw e

@@ -112,11 +112,11 @@ pub struct Shifted {
 mod gaps;
 mod judge;
 mod limits;
-mod soundness;
+pub mod soundness;
 mod steps;
 
 // The cold slave.
-fn cold_slave() -> Slave
+pub fn cold_slave() -> Slave
     ensures { λ r. ⌜ r ≡ cold ⌝ }
 {
     Slave {
@@ -137,7 +137,7 @@ fn cold_slave() -> Slave
 }
 
 // A hunting slave.
-fn hunting_slave(profile: u8, n: u16, site: u16, tad: u32) -> Slave
+pub fn hunting_slave(profile: u8, n: u16, site: u16, tad: u32) -> Slave
     ensures { λ r. ⌜ r ≡ hunting profile n site tad ⌝ }
 {
     Slave {

@@ -5,7 +5,7 @@ ghost use mathlib.Core.Path.{_≡_};
 ghost use Rattle.slave.specs.Sound.{settingsKept, isZero, frequencyFits, indexFits, pendingFits, huntingFits, lockedFits, partsFit, sound};
 
 // The limits of a start's settings.
-pub(crate) fn settings_kept(profile: u8, n: u16, site: u16, tad: u32) -> bool
+pub fn settings_kept(profile: u8, n: u16, site: u16, tad: u32) -> bool
     ensures { λ r. ⌜ r ≡ settingsKept profile n site tad ⌝ }
 {
     if !cadence::admits(profile, n) {
@@ -174,7 +174,7 @@ pub(crate) fn parts_fit(
 }
 
 // A slave whose parts a saved body may hold.
-pub(crate) fn is_sound(s: Slave) -> bool
+pub fn is_sound(s: Slave) -> bool
     ensures { λ r. ⌜ r ≡ sound s ⌝ }
 {
     if !settings_kept(s.profile, s.n, s.site, s.tad) {

@@ -3,3 +3,4 @@ pub mod Tests
 pub mod Negative
 pub mod Puts
 pub mod Numbers
+pub mod Bytes

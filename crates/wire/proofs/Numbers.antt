@@ -1,11 +1,17 @@
 -- A number is the one that its bytes spell, and bytes are those of the number that they spell.
 -- Assumes nothing.
-use mathlib.Core.Path.{_≡_, refl}
-use Prim.Native.Nat.{ℕ, _+_, _*_, _/_, _%_, _^_, _<_}
+use mathlib.Core.Path.{_≡_, refl, ap}
+use mathlib.Core.Bool.{Bool, true, false, cond}
+use Prim.Native.Nat.{ℕ, _+_, _-_, _/_, _%_, _^_, _<_}
 use native.Mathlib.Nat.{div-add-mod'}
 use native.Mathlib.Omega.{arith}
 use lib.Pow.{shr-shr}
+use lib.Dec.{ltb}
+use lib.IntN.{ℤ, pos, negsuc}
+use lib.Signed.{mag}
+use borrow.Author.Tests.{lt-ltb, le-ltb, ltb-false}
 use Rattle.wire.specs.BigEndian.{be16, be24, be32, byte0, byte1, byte2, byte3}
+use Rattle.wire.specs.Signed.{signed, bits}
 
 pub spelled16 : (w : ℕ) → w < 65536 → be16 (byte1 w) (byte0 w) ≡ w
 spelled16 w h = omega arith
@@ -29,3 +35,22 @@ module _ (a b : ℕ) (ha : a < 256) (hb : b < 256) where
     pub of32 : (d : ℕ) → d < 256
         → (byte3 (be32 a b c d) ≡ a) × (byte2 (be32 a b c d) ≡ b) × (byte1 (be32 a b c d) ≡ c) × (byte0 (be32 a b c d) ≡ d)
     of32 d hd = omega arith
+
+-- a signed number is the one that its bits mean, and they are below the whole range
+module _ (half : ℕ) where
+  pub signed-bits : (z : ℤ) → mag z < half → signed half (half + half) (bits (half + half) z) ≡ z
+  signed-bits (pos n) h = rw (lt-ltb n half h)
+  signed-bits (negsuc n) h =
+      rw (le-ltb (half + half - 1 - n) half (omega arith)) (ap negsuc (omega arith))
+
+  pub bits-below : (z : ℤ) → mag z < half → bits (half + half) z < half + half
+  bits-below (pos n) h = omega arith
+  bits-below (negsuc n) h = omega arith
+
+  -- and bits are those of the number that they mean
+  pub bits-signed : (v : ℕ) → v < half + half → bits (half + half) (signed half (half + half) v) ≡ v
+  bits-signed v h = go (ltb v half) refl
+    where
+      go : (t : Bool) → ltb v half ≡ t → bits (half + half) (cond t (pos v) (negsuc (half + half - 1 - v))) ≡ v
+      go true e = refl
+      go false e = omega (arith, ltb-false v half e)

@@ -1,7 +1,7 @@
 // Big-endian numbers, two's complement, and bytes put into a lent buffer: what every format here is made of.
 ghost use mathlib.Core.Path.{_≡_};
-ghost use Rattle.wire.specs.BigEndian.{be16, be24, be32, byte0, byte1, byte2, byte3};
-ghost use Rattle.wire.specs.Signed.{signed16, signed24};
+ghost use Rattle.wire.specs.BigEndian.{be16, be24, be32, byte0, byte1, byte2, byte3, bytes16, bytes32};
+ghost use Rattle.wire.specs.Signed.{signed16, signed24, signed32, bits16, bits32};
 ghost use Rattle.wire.specs.Put.{putAt};
 
 // The number that two bytes spell.
@@ -53,6 +53,21 @@ pub fn fourth_byte(w: u32) -> u8
     (w / 16777216 % 256) as u8
 }
 
+// The bytes of a number of 16 bits.
+pub fn bytes_16(w: u16) -> [u8; 2]
+    ensures { λ r. ⌜ r ≡ bytes16 w ⌝ }
+{
+    let v = w as u32;
+    [second_byte(v), low_byte(v)]
+}
+
+// The bytes of a number of 32 bits.
+pub fn bytes_32(w: u32) -> [u8; 4]
+    ensures { λ r. ⌜ r ≡ bytes32 w ⌝ }
+{
+    [fourth_byte(w), third_byte(w), second_byte(w), low_byte(w)]
+}
+
 // The signed number that 16 bits mean.
 pub fn signed_16(v: u16) -> i16
     ensures { λ r. ⌜ r ≡ signed16 v ⌝ }
@@ -74,6 +89,39 @@ pub fn signed_24(a: u8, b: u8, c: u8) -> i32
     }
     let w = 16777215 - v;
     -1 - (w as i32)
+}
+
+// The signed number that 32 bits mean.
+pub fn signed_32(v: u32) -> i32
+    ensures { λ r. ⌜ r ≡ signed32 v ⌝ }
+{
+    if v < 2147483648 {
+        return v as i32;
+    }
+    let w = 4294967295 - v;
+    -1 - (w as i32)
+}
+
+// The 16 bits of a signed number.
+pub fn bits_16(z: i16) -> u16
+    ensures { λ r. ⌜ r ≡ bits16 z ⌝ }
+{
+    if z < 0 {
+        let w = -1 - z;
+        return 65535 - (w as u16);
+    }
+    z as u16
+}
+
+// The 32 bits of a signed number.
+pub fn bits_32(z: i32) -> u32
+    ensures { λ r. ⌜ r ≡ bits32 z ⌝ }
+{
+    if z < 0 {
+        let w = -1 - z;
+        return 4294967295 - (w as u32);
+    }
+    z as u32
 }
 
 // A byte as a length or an index.

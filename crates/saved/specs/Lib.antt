@@ -1,0 +1,3 @@
+-- The definitions of crate `saved`, in reading order.
+pub mod Layout
+pub mod Block

@@ -1,0 +1,182 @@
+//! The saved block a second time: save and resume.
+//! Written from document 01 alone over the other slave; it shares no code with the proved crates, which are compared with it.
+//! An error is document 01's number. `rule(right, fault, wrong)` is `right` unless that fault is seeded.
+
+use crate::ground::register;
+use crate::slave::{Slave, COLD, LOCKED};
+use faults::{rule, Fault::*};
+
+/// Small faults that can be seeded into the rules below. Built without `--cfg faults` every rule is the papers' own, at no cost.
+pub mod faults {
+    faults! {
+        SaveRoomFirst: "save judges 18 before 15",
+        SaveNeedsMore: "save refuses a buffer of exactly 38 bytes",
+        SaveRefusedWrites: "a refused save writes as much as fits",
+        SaveTailCleared: "a save clears the bytes after the 38",
+        SaveOtherDistance: "save counts the distance from the block's end",
+        SaveLabelSwapped: "save writes the label with its bytes swapped",
+        SaveCheckInverted: "the last byte of the check value is inverted",
+        SettingsLast: "resume judges 15 after 16",
+        RefusedSettingsKept: "15 leaves a hunting slave",
+        OtherBoardFirst: "17 is judged before 16",
+        OtherBoardKept: "17 leaves the block's own slave",
+        RefusedBlockHunts: "16 leaves a hunting slave with the block's TAD",
+        AnyPhase: "resumes on any phase but 0",
+        DistanceOf29: "a distance of 29 is taken",
+        DistanceOf30Only: "a distance above 30 is refused",
+        DistanceCut: "a distance that leads out of the block is taken as its start",
+        BlockAtFront: "the block is the first 38 bytes",
+        ShortAsOther: "fewer than 38 bytes give 17",
+        CheckOfBody: "the check value covers the body alone",
+        CheckUnjudged: "the check value is not judged",
+        TrailerSiteUnjudged: "the trailer's site is not compared with the body's",
+        SiteUnjudged: "the board's site is not compared",
+        CadenceUnjudged: "the board's n is not compared",
+        TadUnjudged: "the board's TAD is not compared",
+        FrequencyOf24Bits: "the frequency's first byte is not read",
+        OffsetUnsigned: "a negative OD is read as 0",
+    }
+
+    #[cfg(faults)]
+    static SEEDED: std::sync::atomic::AtomicUsize = std::sync::atomic::AtomicUsize::new(usize::MAX);
+
+    /// Seeds one fault, or none.
+    #[cfg(faults)]
+    pub fn seed(fault: Option<Fault>) {
+        SEEDED.store(fault.map_or(usize::MAX, |f| f as usize), std::sync::atomic::Ordering::Relaxed);
+    }
+
+    /// The papers' rule, or the wrong one while the fault is seeded.
+    #[inline(always)]
+    pub fn rule<T>(right: T, fault: Fault, wrong: T) -> T {
+        #[cfg(faults)]
+        if SEEDED.load(std::sync::atomic::Ordering::Relaxed) == fault as usize {
+            return wrong;
+        }
+        let _ = (fault, wrong);
+        right
+    }
+}
+
+/// The bytes of a body, of a trailer, and of what save writes.
+pub const BODY: usize = 30;
+pub const TRAILER: usize = 8;
+pub const BLOCK: usize = 38;
+
+/// A slave's parts in the body's order, big-endian.
+pub fn body(s: &Slave) -> Vec<u8> {
+    let next = rule(s.next, SaveLabelSwapped, s.next.swap_bytes());
+    [
+        &[s.phase, s.profile][..],
+        &s.n.to_be_bytes(),
+        &s.site.to_be_bytes(),
+        &s.tad.to_be_bytes(),
+        &s.od.to_be_bytes(),
+        &s.frequency.to_be_bytes(),
+        &s.power.to_be_bytes(),
+        &next.to_be_bytes(),
+        &[s.pending, s.index],
+        &s.sts.to_be_bytes(),
+        &s.md.to_be_bytes(),
+    ]
+    .concat()
+}
+
+fn u16_at(b: &[u8], at: usize) -> u16 {
+    u16::from_be_bytes([b[at], b[at + 1]])
+}
+
+fn u32_at(b: &[u8], at: usize) -> u32 {
+    u32::from_be_bytes([b[at], b[at + 1], b[at + 2], b[at + 3]])
+}
+
+/// The parts that 30 bytes say, whatever they are.
+fn parts(b: &[u8]) -> Slave {
+    let (od, frequency) = (u16_at(b, 10) as i16, u32_at(b, 12) as i32);
+    Slave {
+        phase: b[0],
+        profile: b[1],
+        n: u16_at(b, 2),
+        site: u16_at(b, 4),
+        tad: u32_at(b, 6),
+        od: rule(od, OffsetUnsigned, od.max(0)),
+        frequency: rule(frequency, FrequencyOf24Bits, frequency & 0xFF_FFFF),
+        power: u16_at(b, 16),
+        next: u16_at(b, 18),
+        pending: b[20],
+        index: b[21],
+        sts: u32_at(b, 22),
+        md: u32_at(b, 26),
+    }
+}
+
+/// Bytes followed by the check value that makes all together leave zero.
+pub fn sealed(mut bytes: Vec<u8>) -> Vec<u8> {
+    let check = register(&bytes);
+    bytes.extend(check.to_be_bytes());
+    bytes
+}
+
+/// Save: 15, 18.
+pub fn save(s: &Slave, out: &mut [u8]) -> Result<(), u8> {
+    let distance = rule(BODY, SaveOtherDistance, BLOCK) as u16;
+    let covered = [&body(s)[..], &s.site.to_be_bytes(), &distance.to_be_bytes()].concat();
+    let mut block = sealed(covered);
+    let check = rule(0, SaveCheckInverted, 0xFF);
+    block[BLOCK - 1] ^= check;
+    let cold = if s.sound() { Ok(()) } else { Err(15) };
+    let short = if out.len() < rule(BLOCK, SaveNeedsMore, BLOCK + 1) { Err(18) } else { Ok(()) };
+    let answer = rule(cold.and(short), SaveRoomFirst, short.and(cold));
+    if answer.is_ok() || rule(false, SaveRefusedWrites, true) {
+        let room = out.len().min(BLOCK);
+        out[..room].copy_from_slice(&block[..room]);
+        if rule(false, SaveTailCleared, true) {
+            out[room..].fill(0);
+        }
+    }
+    answer
+}
+
+/// The slave that a block holds, if it is a sound block.
+fn held(block: &[u8]) -> Option<Slave> {
+    let block = rule(block, BlockAtFront, &block[..block.len().min(BLOCK)]);
+    let end = block.len().checked_sub(TRAILER)?;
+    let site = u16_at(block, end);
+    let distance = usize::from(u16_at(block, end + 2));
+    if distance < rule(BODY, DistanceOf29, BODY - 1) || distance > rule(usize::MAX, DistanceOf30Only, BODY) {
+        return None;
+    }
+    let start = rule(end.checked_sub(distance), DistanceCut, Some(end.saturating_sub(distance)))?;
+    let body = block.get(start..start + BODY)?;
+    let covered = rule(block[start..].to_vec(), CheckOfBody, [body, &block[end + 4..]].concat());
+    let s = parts(body);
+    let sound = rule(s.sound(), AnyPhase, s.phase != 0 && Slave { phase: LOCKED, ..s }.sound());
+    let check = rule(register(&covered) == 0, CheckUnjudged, true);
+    let same_site = rule(site == s.site, TrailerSiteUnjudged, true);
+    (check && same_site && sound).then_some(s)
+}
+
+/// Resume on a board of these settings: 15, 16, 17. What is left is the cold slave, a fresh hunting one, or the block's.
+pub fn resume(block: &[u8], profile: u8, n: u16, site: u16, tad: u32) -> (Slave, Result<(), u8>) {
+    let s = held(block);
+    let Ok(fresh) = Slave::start(profile, n, site, tad) else {
+        let left = rule(COLD, RefusedSettingsKept, Slave::hunting(profile, n, site, tad));
+        return (left, Err(if s.is_none() { rule(15, SettingsLast, 16) } else { 15 }));
+    };
+    let other = |s: &Slave| {
+        rule(s.site != site, SiteUnjudged, false)
+            || s.profile != profile
+            || rule(s.n != n, CadenceUnjudged, false)
+            || rule(s.tad != tad, TadUnjudged, false)
+    };
+    match s {
+        None if block.len() < BLOCK => (fresh, Err(rule(16, ShortAsOther, 17))),
+        None => {
+            let said = parts(&block[block.len() - BLOCK..]);
+            let left = rule(fresh, RefusedBlockHunts, Slave { tad: said.tad, ..fresh });
+            (left, Err(rule(16, OtherBoardFirst, if other(&said) { 17 } else { 16 })))
+        }
+        Some(s) if other(&s) => (rule(fresh, OtherBoardKept, s), Err(17)),
+        Some(s) => (s, Ok(())),
+    }
+}
