@@ -58,7 +58,7 @@ site-8 = another-board locked fits room accepted [] 0 2016 8 200 refl (λ q. ome
 
 -- 16: phase 7, check right
 pub phase-7 : resumeOf (blockOf (record { phase = 7; profile = 0; n = 2016; site = 7; tad = 200; od = pos 0; frequency = pos 0; power = 0; next = 0; pending = 0; index = 255; sts = 0; md = 0 })) 0 2016 7 200 ≡ record { slave = hunting 0 2016 7 200; reply = refused 16 }
-unfolding resumeOf settingsKept admits isMegaFrame atSomeRate second blockFits shaped fromBody slaveIn blockOf coveredOf bodyOf register registerFrom bitsIn bitIn sound
+unfolding resumeOf settingsKept admits isMegaFrame atSomeRate second blockFits shaped fromBody slaveIn blockOf coveredOf bodyOf register registerFrom bitsIn bitIn sound partsFit
 phase-7 = refl
 
 -- 18: 37 bytes
