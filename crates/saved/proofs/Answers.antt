@@ -12,9 +12,10 @@ use Rattle.wire.specs.BigEndian.{bytes32}
 use Rattle.wire.proofs.Puts.{put-behind}
 use Rattle.check_value.specs.Register.{register, sealed}
 use Rattle.slave.specs.Sound.{settingsKept, sound, cold, hunting}
+use Rattle.slave.specs.Calls.{startOf}
 use Rattle.slave.specs.declared.Slave.{Slave}
 use Rattle.saved.specs.Layout.{bodyOf}
-use Rattle.saved.specs.Block.{blockLength, coveredOf, blockOf, saveRefusal, saveReply, saveOf, held, blockFits, sameBoard, resumeOf}
+use Rattle.saved.specs.Block.{blockLength, coveredOf, blockOf, saveRefusal, saveReply, saveOf, held, blockFits, sameBoard, resumeRefusal, resumeOf}
 
 -- ---- save
 
@@ -63,20 +64,20 @@ block-put s d d₁ d₂ c e p q =
 
 module _ (b : List ℕ) (profile n site tad : ℕ) where
   pub resume-15 : settingsKept profile n site tad ≡ false → resumeOf b profile n site tad ≡ record { slave = cold; reply = refused 15 }
-  unfolding resumeOf
+  unfolding resumeOf resumeRefusal startOf
   resume-15 e = rw e
 
   module _ (e : settingsKept profile n site tad ≡ true) where
     pub resume-16 : blockFits b ≡ false → resumeOf b profile n site tad ≡ record { slave = hunting profile n site tad; reply = refused 16 }
-    unfolding resumeOf
+    unfolding resumeOf resumeRefusal startOf
     resume-16 f = rw (e, f)
 
     module _ (f : blockFits b ≡ true) where
       pub resume-17 : sameBoard (held b) profile n site tad ≡ false
           → resumeOf b profile n site tad ≡ record { slave = hunting profile n site tad; reply = refused 17 }
-      unfolding resumeOf
+      unfolding resumeOf resumeRefusal startOf
       resume-17 h = rw (e, f, h)
 
       pub resume-held : sameBoard (held b) profile n site tad ≡ true → resumeOf b profile n site tad ≡ record { slave = held b; reply = given tt }
-      unfolding resumeOf
+      unfolding resumeOf resumeRefusal startOf
       resume-held h = rw (e, f, h)

@@ -12,9 +12,10 @@ use Rattle.times.specs.Whole.{within}
 use Rattle.times.specs.Release.{delayFits}
 use Rattle.cadence.specs.Cadence.{atSomeRate, isMegaFrame, admits}
 use Rattle.slave.specs.Sound.{second, delayKept, settingsKept, frequencyFits, indexFits, pendingFits, lockedFits, partsFit, sound, hunting}
+use Rattle.slave.specs.Calls.{startOf}
 use Rattle.slave.specs.declared.Slave.{Slave}
 use Rattle.saved.specs.Layout.{Part, Phase, Profile, Cadence, Site, Tad, Od, Frequency, Power, Next, Pending, Index, Sts, Md, fieldOf, bitsOf, bodyOf, slaveIn}
-use Rattle.saved.specs.Block.{blockLength, coveredOf, blockOf, saveRefusal, saveReply, saveOf, shaped, fromBody, blockFits, resumeOf}
+use Rattle.saved.specs.Block.{blockLength, coveredOf, blockOf, saveRefusal, saveReply, saveOf, shaped, fromBody, blockFits, resumeRefusal, resumeOf}
 use Rattle.saved.proofs.Body.{rangeOf, Fits}
 use Rattle.saved.proofs.Resumed.{saved-resumes, another-board}
 
@@ -58,7 +59,7 @@ site-8 = another-board locked fits room accepted [] 0 2016 8 200 refl (λ q. ome
 
 -- 16: phase 7, check right
 pub phase-7 : resumeOf (blockOf (record { phase = 7; profile = 0; n = 2016; site = 7; tad = 200; od = pos 0; frequency = pos 0; power = 0; next = 0; pending = 0; index = 255; sts = 0; md = 0 })) 0 2016 7 200 ≡ record { slave = hunting 0 2016 7 200; reply = refused 16 }
-unfolding resumeOf settingsKept admits isMegaFrame atSomeRate second blockFits shaped fromBody slaveIn blockOf coveredOf bodyOf register registerFrom bitsIn bitIn sound partsFit
+unfolding resumeOf resumeRefusal startOf settingsKept admits isMegaFrame atSomeRate second blockFits shaped fromBody slaveIn blockOf coveredOf bodyOf register registerFrom bitsIn bitIn sound partsFit
 phase-7 = refl
 
 -- 18: 37 bytes

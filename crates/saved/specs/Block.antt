@@ -2,15 +2,16 @@
 -- what resume leaves and answers (15, 16, 17).
 -- Assumes nothing.
 use Prim.Native.Nat.{ℕ, _+_, _-_}
-use mathlib.Core.Bool.{Bool, cond, _&&_}
+use mathlib.Core.Bool.{Bool, _&&_}
 use mathlib.Core.List.{List, _++_}
 use lib.ListN.{length, drop}
 use lib.Dec.{eqb, leb}
-use Rattle.wire.specs.Reply.{Reply, refused, given, must, reply, keptBy}
+use Rattle.wire.specs.Reply.{Reply, must, reply, keptBy}
 use Rattle.wire.specs.BigEndian.{be16At, bytes16}
 use Rattle.check_value.specs.Register.{register, sealed}
-use Rattle.slave.specs.Sound.{settingsKept, sound, cold, hunting}
+use Rattle.slave.specs.Sound.{settingsKept, sound}
 use Rattle.slave.specs.Answer.{Moved}
+use Rattle.slave.specs.Calls.{startOf}
 use Rattle.slave.specs.declared.Slave.{Slave}
 use Rattle.saved.specs.Layout.{bodyLength, bodyOf, slaveIn}
 
@@ -74,12 +75,18 @@ blockFits b = shaped b && eqb (register (fromBody b)) 0 && eqb (trailerSite b) (
 unfoldable pub sameBoard : Slave → (profile n site tad : ℕ) → Bool
 sameBoard s profile n site tad = eqb (s .site) site && eqb (s .profile) profile && eqb (s .n) n && eqb (s .tad) tad
 
+-- 15, 16, 17
+unfoldable pub resumeRefusal : List ℕ → (profile n site tad : ℕ) → ℕ
+resumeRefusal b profile n site tad =
+    must (settingsKept profile n site tad) 15
+    (must (blockFits b) 16
+    (must (sameBoard (held b) profile n site tad) 17
+    0))
+
+-- a number leaves what a start with these settings leaves, the cold slave or a fresh hunting one; else the slave that the block holds is left
 unfoldable pub resumeOf : List ℕ → (profile n site tad : ℕ) → Moved
 resumeOf b profile n site tad =
-    cond (settingsKept profile n site tad)
-    (cond (blockFits b)
-    (cond (sameBoard (held b) profile n site tad)
-    (record { slave = held b; reply = given tt })
-    (record { slave = hunting profile n site tad; reply = refused 17 }))
-    (record { slave = hunting profile n site tad; reply = refused 16 }))
-    (record { slave = cold; reply = refused 15 })
+    record {
+      slave = keptBy (resumeRefusal b profile n site tad) (startOf profile n site tad .slave) (held b);
+      reply = reply (resumeRefusal b profile n site tad) tt;
+    }
