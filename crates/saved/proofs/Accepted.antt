@@ -2,26 +2,25 @@
 --     accepted-body    the body of an accepted block is the body of the slave that is left
 --     accepted-block   and with save's distance, body through check value are exactly what that slave saves
 -- Assumes nothing.
-use mathlib.Core.Path.{_≡_, refl, sym, ap, ap₂, _∙_}
-use mathlib.Core.Bool.{Bool, true, false}
+use mathlib.Core.Path.{_≡_, sym, ap, ap₂, _∙_}
+use mathlib.Core.Bool.{true}
 use mathlib.Core.List.{List, [], _∷_, _++_}
 use Prim.Native.Nat.{ℕ, _+_, _-_, _<_}
 use native.Mathlib.Omega.{arith}
 use lib.ListN.{length, take, drop, getD}
 use lib.Seq.{take-all, getD-drop, drop-drop}
-use Rattle.wire.specs.Reply.{refused, given, numberOf}
+use Rattle.wire.specs.Reply.{given}
 use Rattle.wire.specs.BigEndian.{be16, be16At, bytes16}
 use Rattle.wire.proofs.Numbers.{of16}
+use Rattle.wire.proofs.Tests.{passed, given-zero, kept-new}
 use Rattle.wire.proofs.Bytes.{Bytes, drop-bytes, elements, elements-are}
 use Rattle.check_value.specs.Register.{register, sealed}
 use Rattle.check_value.proofs.Laws.{zero-only}
 use Rattle.slave.specs.Sound.{settingsKept}
-use Rattle.slave.specs.Answer.{Moved}
 use Rattle.saved.specs.Layout.{bodyLength, bodyOf, slaveIn}
-use Rattle.saved.specs.Block.{trailerLength, blockLength, coveredOf, blockOf, trailer, distance, fromBody, held, blockFits, sameBoard, resumeOf}
+use Rattle.saved.specs.Block.{trailerLength, blockLength, coveredOf, blockOf, trailer, distance, fromBody, held, blockFits, resumeRefusal, resumeOf}
 use Rattle.saved.proofs.Shape.{shape-room, body-length, body-room}
 use Rattle.saved.proofs.Fitting.{shape-of, check-of, site-of}
-use Rattle.saved.proofs.Answers.{resume-15, resume-16, resume-17, resume-held}
 use Rattle.saved.proofs.Body.{body-again}
 
 pair-again : (a b : ℕ) → a < 256 → b < 256 → bytes16 (be16 a b) ≡ a ∷ b ∷ []
@@ -80,25 +79,12 @@ module _ (b : List ℕ) (bytes : Bytes b) (fits : blockFits b ≡ true) where
 -- ---- by resume's reply
 
 module _ (b : List ℕ) (profile n site tad : ℕ) (e : resumeOf b profile n site tad .reply ≡ given tt) where
-  -- a reply that gives is that of the slave held
+  -- a reply that gives is that of a block that fits, and leaves its slave
   accepted : (blockFits b ≡ true) × (resumeOf b profile n site tad .slave ≡ held b)
-  accepted = settings (settingsKept profile n site tad) refl
-    where
-      never : (k : ℕ) (m : Moved) → resumeOf b profile n site tad ≡ m → m .reply ≡ refused k → k ≡ 0
-      never k m p q = ap numberOf (sym q ∙ sym (ap (λ (x : Moved). x .reply) p) ∙ e)
-
-      board : settingsKept profile n site tad ≡ true → blockFits b ≡ true → (t : Bool) → sameBoard (held b) profile n site tad ≡ t
-          → (blockFits b ≡ true) × (resumeOf b profile n site tad .slave ≡ held b)
-      board s f true q = (f, ap (λ (x : Moved). x .slave) (resume-held b profile n site tad s f q))
-      board s f false q = absurd (omega (arith, never 17 _ (resume-17 b profile n site tad s f q) refl))
-
-      block : settingsKept profile n site tad ≡ true → (t : Bool) → blockFits b ≡ t → (blockFits b ≡ true) × (resumeOf b profile n site tad .slave ≡ held b)
-      block s true f = board s f (sameBoard (held b) profile n site tad) refl
-      block s false f = absurd (omega (arith, never 16 _ (resume-16 b profile n site tad s f) refl))
-
-      settings : (t : Bool) → settingsKept profile n site tad ≡ t → (blockFits b ≡ true) × (resumeOf b profile n site tad .slave ≡ held b)
-      settings true s = block s (blockFits b) refl
-      settings false s = absurd (omega (arith, never 15 _ (resume-15 b profile n site tad s) refl))
+  unfolding resumeOf resumeRefusal
+  accepted =
+      let none = given-zero (resumeRefusal b profile n site tad) tt tt e .0 in
+      (passed (blockFits b) _ _ (passed (settingsKept profile n site tad) _ _ none .1) .0, kept-new _ _ (held b) none)
 
   module _ (bytes : Bytes b) where
     pub accepted-body : take bodyLength (fromBody b) ≡ bodyOf (resumeOf b profile n site tad .slave)

@@ -18,9 +18,9 @@ use Rattle.wire.specs.Reply.{refused, given}
 use Rattle.wire.specs.BigEndian.{be16At, bytes16, bytes32}
 use Rattle.wire.proofs.Numbers.{spelled16}
 use Rattle.wire.proofs.Tests.{passed, given-zero}
+use Rattle.wire.proofs.Bytes.{Bytes, and-bytes, bytes-16, bytes-32}
 use Rattle.check_value.specs.Register.{register}
 use Rattle.check_value.proofs.Sealing.{sealed-length}
-use Rattle.wire.proofs.Bytes.{Bytes, and-bytes, bytes-16, bytes-32}
 use Rattle.check_value.proofs.Laws.{leaves-zero, flipped, misses-no-bit}
 use Rattle.slave.specs.Sound.{settingsKept, sound, hunting}
 use Rattle.slave.specs.Answer.{Moved}
@@ -166,7 +166,8 @@ module _ (s : Slave) (f : Fits s) (out : List ℕ) (e : saveReply s (length out)
 -- ---- any bytes
 
 module _ (b : List ℕ) (profile n site tad : ℕ) (kept : settingsKept profile n site tad ≡ true) where
-  abbrev Left : Moved → Type 0
+  -- sound, with the board's settings
+  abbrev pub Left : Moved → Type 0
   Left m = (sound (m .slave) ≡ true) × (boardOf (m .slave) ≡ record { profile = profile; n = n; site = site; tad = tad })
 
   fresh : (k : ℕ) → resumeOf b profile n site tad ≡ record { slave = hunting profile n site tad; reply = refused k } → Left (resumeOf b profile n site tad)
