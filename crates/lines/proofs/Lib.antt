@@ -1,0 +1,5 @@
+-- The laws of crate `lines`, in the order in which they build on each other.
+pub mod Decimals
+pub mod Putting
+pub mod Filling
+pub mod Carrying
