@@ -1,12 +1,14 @@
 -- Bytes moved to the front, one by one.
 -- Assumes nothing.
 use mathlib.Core.Path.{_≡_, refl, sym, ap, ap₂, _∙_}
+use mathlib.Core.Bool.{Bool, true, false, _&&_}
 use mathlib.Core.List.{List, [], _∷_, _++_}
 use Prim.Native.Nat.{ℕ, suc, _+_, _-_, _≤_, _<_}
 use native.Mathlib.Numerals.{add-one}
 use native.Mathlib.Omega.{arith}
 use lib.ListN.{length, take, drop, set, getD, length-drop}
 use lib.Seq.{length-take-le, take-suc, drop-cons, append-snoc, set-at, getD-append-add, getD-drop}
+use lib.Dec.{leb}
 use borrow.Author.Tests.{le-leb, lt-leb}
 use Rattle.lines.specs.Pieces.{carried}
 
@@ -36,9 +38,13 @@ module _ (d : List ℕ) (from k : ℕ) (h : from + k < length d) where
       ∙ ap (λ (l : List ℕ). l ++ drop (suc k) d) (sym (take-suc (drop from d) k 0 (omega (arith, length-drop from d))))
       ∙ ap (λ (n : ℕ). moved d from n) (sym (add-one k))
 
+and-false : (b : Bool) → (b && false) ≡ false
+and-false true = refl
+and-false false = refl
+
 pub carried-short : (d : List ℕ) (from to : ℕ) → length d < to → carried d from to ≡ d
 unfolding carried
-carried-short d from to h = ?
+carried-short d from to h = rw (lt-leb to (length d) h, and-false (leb from to))
 
 pub carried-back : (d : List ℕ) (from to : ℕ) → to < from → carried d from to ≡ d
 unfolding carried

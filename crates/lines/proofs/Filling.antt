@@ -65,7 +65,3 @@ module _ (d : List ℕ) (at n : ℕ) (d′ : List ℕ) (i rest : ℕ) (f : Filli
         ends = refl;
         short = l;
       }
-
-  -- what is still to be put is no longer than all of it
-  pub within : i ≤ at + length (decimal n)
-  within = ?

@@ -3,3 +3,4 @@ pub mod Decimals
 pub mod Putting
 pub mod Filling
 pub mod Carrying
+pub mod Capture

@@ -1,6 +1,6 @@
 -- Pieces put one behind the other are one piece.
 -- Assumes nothing.
-use mathlib.Core.Path.{_≡_, refl, sym, ap, ap₂, _∙_}
+use mathlib.Core.Path.{_≡_, refl, sym, ap, ap₂, _∙_, subst}
 use mathlib.Core.List.{List, [], _∷_, _++_, append-assoc}
 use Prim.Native.Nat.{ℕ, _+_, _≤_, _<_, suc}
 use native.Mathlib.Omega.{arith}
@@ -56,3 +56,25 @@ at-front {d = d} {s = s} p =
       bytes = p .bytes ∙ ap (λ (n : ℕ). s ++ drop n d) (zero-add (length s));
       counted = p .ends ∙ zero-add (length s);
     }
+
+-- the same piece, said another way
+pub retext : {most : ℕ} {d : List ℕ} {at : ℕ} {s t d′ : List ℕ} {e : ℕ} → s ≡ t → Puts most d at s d′ e → Puts most d at t d′ e
+retext {most} {d} {at} {s} {t} {d′} {e} q p = subst (λ (x : List ℕ). Puts most d at x d′ e) q p
+
+pub refront : {s t d d′ : List ℕ} {e : ℕ} → s ≡ t → Fronts s d d′ e → Fronts t d d′ e
+refront {s} {t} {d} {d′} {e} q p = subst (λ (x : List ℕ). Fronts x d d′ e) q p
+
+-- nothing yet, and a piece behind what stands at the front
+pub nothing : (d : List ℕ) → Fronts [] d d 0
+nothing d = record { bytes = refl; counted = refl }
+
+pub front-then : {most : ℕ} {s d d₁ : List ℕ} {e : ℕ} {t d₂ : List ℕ} {f : ℕ} → Fronts s d d₁ e → Puts most d₁ e t d₂ f → Fronts (s ++ t) d d₂ f
+front-then {s = s} {d = d} {d₁ = d₁} {e = e} p q =
+    at-front
+    (then {most = length s} {d = d} {at = 0} {s = s} {d₁ = d₁} {e = e} (omega arith)
+    (record {
+      bytes = p .bytes ∙ ap (λ (n : ℕ). s ++ drop n d) (sym (zero-add (length s)));
+      ends = p .counted ∙ sym (zero-add (length s));
+      short = omega arith;
+    })
+    q)

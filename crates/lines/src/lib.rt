@@ -36,7 +36,7 @@ pub struct Piece {
 }
 
 // The site line where the slave was started, or the refusal alone.
-fn opened(started: Shifted, site: u16, n: u16, out: &mut [u8; 64]) -> Begun
+fn opened(started: Shifted, site: u16, n: u16, out: &mut [u8; 128]) -> Begun
     ensures { λ r. ⌜ (r .slave ≡ started .slave) × (outcomeOf (r .outcome) ≡ outcomeOf (started .outcome)) × Fronts (openedBy site n (outcomeOf (started .outcome))) (now (out .entry)) (now (out .exit)) (r .filled) ⌝ }
 {
     let s = started.slave;
@@ -56,7 +56,7 @@ fn opened(started: Shifted, site: u16, n: u16, out: &mut [u8; 64]) -> Begun
 }
 
 // Starts a slave by the settings, and writes the site line, or the refusal alone. Short settings are refused as site 0 is.
-pub fn begin(head: &[u8], out: &mut [u8; 64]) -> Begun
+pub fn begin(head: &[u8], out: &mut [u8; 128]) -> Begun
     ensures { λ r. ⌜ (r .slave ≡ begunBy (now (head .entry)) .slave) × (outcomeOf (r .outcome) ≡ begunBy (now (head .entry)) .reply) × Fronts (openingOf (now (head .entry))) (now (out .entry)) (now (out .exit)) (r .filled) ⌝ }
 {
     if head.len() < 9 {

@@ -145,8 +145,8 @@ pub fn put_line(out: &mut [u8], at: usize, number: u64, answer: Answer) -> usize
 
 // The site line.
 pub fn put_site(out: &mut [u8], at: usize, site: u16, n: u16) -> usize
-    requires { ⌜ at + 64 ≤ length (now out) ⌝ }
-    ensures { λ r. ⌜ Puts 64 (now (out .entry)) at (siteLine site n) (now (out .exit)) r ⌝ }
+    requires { ⌜ at + 96 ≤ length (now out) ⌝ }
+    ensures { λ r. ⌜ Puts 96 (now (out .entry)) at (siteLine site n) (now (out .exit)) r ⌝ }
 {
     let word = put_word(out, at, b"site ");
     let number = put_decimal(out, word, site as u64);

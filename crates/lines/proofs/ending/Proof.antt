@@ -1,22 +1,23 @@
+-- `lines::ending` meets its contract.
+-- Assumes nothing.
 use borrow.Author.Needs.{needs}
+use native.Mathlib.Omega.{arith}
+use Rattle.lines.proofs.Putting.{then, at-front, refront}
+use Rattle.lines.proofs.Capture.{ending-empty, ending-most, ending-cut}
 use Rattle.lines.proofs.ending.Statement.{statement}
 use Rattle.lines.proofs.ending.Tie as tie
-use Rattle.lines.proofs.ending.Reads as reads
-use Rattle.lines.proofs.ending.Lts as lts
-use Rattle.lines.proofs.text.put_end.Reads as put-end-reads
-use Rattle.lines.proofs.text.put_line.Reads as put-line-reads
 
 put-end-requires : tie.Need-put-end-requires
 put-end-requires c κs = search needs
 
 returns : tie.Need-returns
-returns c = ?
+returns c = refront (ending-empty _ _ (c .before .before .if1 .taken)) (at-front (c .put-end .ensures))
 
 put-end-requires-2 : tie.Need-put-end-requires-2
 put-end-requires-2 c κs = search needs
 
 returns-2 : tie.Need-returns-2
-returns-2 c = ?
+returns-2 c = refront (ending-most _ _ (c .before .before .before .if1 .left) (c .before .before .if2 .taken)) (at-front (c .put-end2 .ensures))
 
 put-line-requires : tie.Need-put-line-requires
 put-line-requires c κs = search needs
@@ -28,7 +29,7 @@ put-end-requires-3 : tie.Need-put-end-requires-3
 put-end-requires-3 c κs = search needs
 
 returns-3 : tie.Need-returns-3
-returns-3 c = ?
+returns-3 c = refront (ending-cut _ _ (c .before .before .before .before .before .if1 .left) (c .before .before .before .before .if2 .left)) (at-front (then (omega arith) (c .before .before .put-line .ensures) (c .put-end3 .ensures)))
 
 pub ending-spec : {M : Type 1} → statement M
 ending-spec =

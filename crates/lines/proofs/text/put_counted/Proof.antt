@@ -1,12 +1,13 @@
+-- `lines::text::put_counted` meets its contract.
+-- Assumes nothing.
 use borrow.Author.Needs.{needs}
+use native.Mathlib.Omega.{arith}
+use Prim.Native.Nat.{_≤_}
+use lib.ListN.{length}
+use denote.Ref.{now}
+use Rattle.lines.proofs.Putting.{then, wider}
 use Rattle.lines.proofs.text.put_counted.Statement.{statement}
 use Rattle.lines.proofs.text.put_counted.Tie as tie
-use Rattle.lines.proofs.text.put_counted.Reads as reads
-use Rattle.lines.proofs.text.put_counted.Lts as lts
-use Rattle.lines.proofs.text.put_byte.Reads as put-byte-reads
-use Rattle.lines.proofs.text.put_label.Reads as put-label-reads
-use Rattle.lines.proofs.text.put_mark.Reads as put-mark-reads
-use Rattle.lines.proofs.text.put_notice.Reads as put-notice-reads
 
 put-label-requires : tie.Need-put-label-requires
 put-label-requires c κs = search needs
@@ -30,7 +31,9 @@ same-length : tie.Need-same-length
 same-length c = search needs
 
 returns : tie.Need-returns
-returns c = ?
+returns c =
+    let h : c .before .before .before .before .before .before .before .before .before .before .before .before .before .before .before .before .before .before .before .before .before .before .before .before .before .args .at ≤ length (now (c .before .before .before .before .before .before .before .before .before .before .before .before .before .before .before .before .before .before .before .before .before .before .before .before .before .args .out)) = search needs in
+    wider (omega arith) (then h (then h (then h (then h (then h (c .before .before .before .before .before .before .before .before .before .before .before .before .before .before .before .before .before .before .before .before .before .before .put-label .ensures) (c .before .before .before .before .before .before .before .before .before .before .before .before .before .before .before .before .before .before .put-byte .ensures)) (c .before .before .before .before .before .before .before .before .before .before .before .before .before .before .put-notice .ensures)) (c .before .before .before .before .before .before .before .before .before .before .put-byte2 .ensures)) (c .before .before .before .before .before .before .put-mark .ensures)) (c .before .before .put-byte3 .ensures))
 
 pub put-counted-spec : {M : Type 1} → statement M
 put-counted-spec =

@@ -1,11 +1,14 @@
+-- `lines::text::put_end` meets its contract.
+-- Assumes nothing.
 use borrow.Author.Needs.{needs}
+use Rattle.lines.specs.Line.{endLine}
+use native.Mathlib.Omega.{arith}
+use Prim.Native.Nat.{_≤_}
+use lib.ListN.{length}
+use denote.Ref.{now}
+use Rattle.lines.proofs.Putting.{then, wider}
 use Rattle.lines.proofs.text.put_end.Statement.{statement}
 use Rattle.lines.proofs.text.put_end.Tie as tie
-use Rattle.lines.proofs.text.put_end.Reads as reads
-use Rattle.lines.proofs.text.put_end.Lts as lts
-use Rattle.lines.proofs.text.put_byte.Reads as put-byte-reads
-use Rattle.lines.proofs.text.put_decimal.Reads as put-decimal-reads
-use Rattle.lines.proofs.text.put_word.Reads as put-word-reads
 
 slice-aggregate-put-word : tie.Need-slice-aggregate-put-word
 slice-aggregate-put-word c = search needs
@@ -23,7 +26,10 @@ same-length : tie.Need-same-length
 same-length c = search needs
 
 returns : tie.Need-returns
-returns c = ?
+unfolding endLine
+returns c =
+    let h : c .before .before .before .before .before .before .before .before .before .before .before .before .before .before .args .at ≤ length (now (c .before .before .before .before .before .before .before .before .before .before .before .before .before .before .args .out)) = search needs in
+    wider (omega arith) (then h (then h (c .before .before .before .before .before .before .before .before .before .before .put-word .ensures) (c .before .before .before .before .before .before .put-decimal .ensures)) (c .before .before .put-byte .ensures))
 
 pub put-end-spec : {M : Type 1} → statement M
 put-end-spec =

@@ -1,10 +1,14 @@
+-- `lines::text::put_label` meets its contract.
+-- Assumes nothing.
 use borrow.Author.Needs.{needs}
+use mathlib.Core.Path.{sym, ap}
+use native.Mathlib.Omega.{arith}
+use Rattle.slave.specs.Answer.{optionOf}
+use Rattle.slave.specs.declared.Maybe.{Maybe}
+use Rattle.lines.specs.Line.{labelText}
+use Rattle.lines.proofs.Putting.{wider, retext}
 use Rattle.lines.proofs.text.put_label.Statement.{statement}
 use Rattle.lines.proofs.text.put_label.Tie as tie
-use Rattle.lines.proofs.text.put_label.Reads as reads
-use Rattle.lines.proofs.text.put_label.Lts as lts
-use Rattle.lines.proofs.text.put_byte.Reads as put-byte-reads
-use Rattle.lines.proofs.text.put_decimal.Reads as put-decimal-reads
 
 enum-told : tie.Need-enum-told
 enum-told c = search needs
@@ -25,13 +29,13 @@ same-length : tie.Need-same-length
 same-length c = search needs
 
 returns : tie.Need-returns
-returns c = ?
+returns c = retext (sym (ap (λ (m : Maybe). labelText (optionOf m)) (c .before .before .before .before .enum-told .given .1))) (wider (omega arith) (c .before .before .put-byte .ensures))
 
 same-length-2 : tie.Need-same-length-2
 same-length-2 c = search needs
 
 returns-2 : tie.Need-returns-2
-returns-2 c = ?
+returns-2 c = retext (sym (ap (λ (m : Maybe). labelText (optionOf m)) (c .before .before .before .before .before .label .given .1))) (c .before .before .put-decimal .ensures)
 
 pub put-label-spec : {M : Type 1} → statement M
 put-label-spec =

@@ -1,12 +1,17 @@
+-- `lines::text::put_line` meets its contract.
+-- Assumes nothing.
 use borrow.Author.Needs.{needs}
+use mathlib.Core.Path.{sym, ap}
+use native.Mathlib.Omega.{arith}
+use Prim.Native.Nat.{_≤_}
+use lib.ListN.{length}
+use denote.Ref.{now}
+use Rattle.slave.specs.Answer.{answerOf}
+use Rattle.slave.specs.declared.Answer.{Answer}
+use Rattle.lines.specs.Line.{lineOf}
+use Rattle.lines.proofs.Putting.{then, wider, retext}
 use Rattle.lines.proofs.text.put_line.Statement.{statement}
 use Rattle.lines.proofs.text.put_line.Tie as tie
-use Rattle.lines.proofs.text.put_line.Reads as reads
-use Rattle.lines.proofs.text.put_line.Lts as lts
-use Rattle.lines.proofs.text.put_byte.Reads as put-byte-reads
-use Rattle.lines.proofs.text.put_counted.Reads as put-counted-reads
-use Rattle.lines.proofs.text.put_decimal.Reads as put-decimal-reads
-use Rattle.lines.proofs.text.put_refusal.Reads as put-refusal-reads
 
 put-decimal-requires : tie.Need-put-decimal-requires
 put-decimal-requires c κs = search needs
@@ -30,13 +35,19 @@ same-length : tie.Need-same-length
 same-length c = search needs
 
 returns : tie.Need-returns
-returns c = ?
+unfolding lineOf
+returns c =
+    let h : c .before .before .before .before .before .before .before .before .before .before .before .before .before .before .before .before .args .at ≤ length (now (c .before .before .before .before .before .before .before .before .before .before .before .before .before .before .before .before .args .out)) = search needs in
+    retext (sym (ap (λ (a : Answer). lineOf (c .before .before .before .before .before .before .before .before .before .before .before .before .before .before .before .before .args .number) (answerOf a)) (c .before .before .before .before .before .answer .given .1))) (wider (omega arith) (then h (then h (c .before .before .before .before .before .before .before .before .before .before .before .before .before .put-decimal .ensures) (c .before .before .before .before .before .before .before .before .before .put-byte .ensures)) (c .before .before .put-refusal .ensures)))
 
 same-length-2 : tie.Need-same-length-2
 same-length-2 c = search needs
 
 returns-2 : tie.Need-returns-2
-returns-2 c = ?
+unfolding lineOf
+returns-2 c =
+    let h : c .before .before .before .before .before .before .before .before .before .before .before .before .before .before .before .before .args .at ≤ length (now (c .before .before .before .before .before .before .before .before .before .before .before .before .before .before .before .before .args .out)) = search needs in
+    retext (sym (ap (λ (a : Answer). lineOf (c .before .before .before .before .before .before .before .before .before .before .before .before .before .before .before .before .args .number) (answerOf a)) (c .before .before .before .before .before .answer2 .given .1))) (wider (omega arith) (then h (then h (c .before .before .before .before .before .before .before .before .before .before .before .before .before .put-decimal .ensures) (c .before .before .before .before .before .before .before .before .before .put-byte .ensures)) (c .before .before .put-counted .ensures)))
 
 pub put-line-spec : {M : Type 1} → statement M
 put-line-spec =

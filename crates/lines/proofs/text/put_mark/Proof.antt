@@ -1,11 +1,14 @@
+-- `lines::text::put_mark` meets its contract.
+-- Assumes nothing.
 use borrow.Author.Needs.{needs}
+use mathlib.Core.Path.{sym, ap}
+use native.Mathlib.Omega.{arith}
+use Rattle.slave.specs.Answer.{markOf}
+use Rattle.slave.specs.declared.MarkPart.{MarkPart}
+use Rattle.lines.specs.Line.{markText}
+use Rattle.lines.proofs.Putting.{wider, retext}
 use Rattle.lines.proofs.text.put_mark.Statement.{statement}
 use Rattle.lines.proofs.text.put_mark.Tie as tie
-use Rattle.lines.proofs.text.put_mark.Reads as reads
-use Rattle.lines.proofs.text.put_mark.Lts as lts
-use Rattle.lines.proofs.text.put_byte.Reads as put-byte-reads
-use Rattle.lines.proofs.text.put_decimal.Reads as put-decimal-reads
-use Rattle.lines.proofs.text.put_word.Reads as put-word-reads
 
 enum-told : tie.Need-enum-told
 enum-told c = search needs
@@ -53,31 +56,31 @@ same-length : tie.Need-same-length
 same-length c = search needs
 
 returns : tie.Need-returns
-returns c = ?
+returns c = retext (sym (ap (λ (m : MarkPart). markText (markOf m)) (c .before .before .before .before .enum-told .given .1))) (wider (omega arith) (c .before .before .put-byte .ensures))
 
 same-length-2 : tie.Need-same-length-2
 same-length-2 c = search needs
 
 returns-2 : tie.Need-returns-2
-returns-2 c = ?
+returns-2 c = retext (sym (ap (λ (m : MarkPart). markText (markOf m)) (c .before .before .before .before .before .enum-told2 .given .1))) (c .before .before .put-word .ensures)
 
 same-length-3 : tie.Need-same-length-3
 same-length-3 c = search needs
 
 returns-3 : tie.Need-returns-3
-returns-3 c = ?
+returns-3 c = retext (sym (ap (λ (m : MarkPart). markText (markOf m)) (c .before .before .before .before .before .enum-told3 .given .1))) (c .before .before .put-word2 .ensures)
 
 same-length-4 : tie.Need-same-length-4
 same-length-4 c = search needs
 
 returns-4 : tie.Need-returns-4
-returns-4 c = ?
+returns-4 c = retext (sym (ap (λ (m : MarkPart). markText (markOf m)) (c .before .before .before .before .before .before .before .mark .given .1))) (c .before .before .put-decimal .ensures)
 
 same-length-5 : tie.Need-same-length-5
 same-length-5 c = search needs
 
 returns-5 : tie.Need-returns-5
-returns-5 c = ?
+returns-5 c = retext (sym (ap (λ (m : MarkPart). markText (markOf m)) (c .before .before .before .before .before .before .before .mark2 .given .1))) (c .before .before .put-decimal2 .ensures)
 
 pub put-mark-spec : {M : Type 1} → statement M
 put-mark-spec =

@@ -1,11 +1,14 @@
+-- `lines::text::put_notice` meets its contract.
+-- Assumes nothing.
 use borrow.Author.Needs.{needs}
+use mathlib.Core.Path.{sym, ap}
+use native.Mathlib.Omega.{arith}
+use Rattle.slave.specs.Answer.{noticeOf}
+use Rattle.slave.specs.declared.NoticePart.{NoticePart}
+use Rattle.lines.specs.Line.{noticeText}
+use Rattle.lines.proofs.Putting.{wider, retext}
 use Rattle.lines.proofs.text.put_notice.Statement.{statement}
 use Rattle.lines.proofs.text.put_notice.Tie as tie
-use Rattle.lines.proofs.text.put_notice.Reads as reads
-use Rattle.lines.proofs.text.put_notice.Lts as lts
-use Rattle.lines.proofs.text.put_byte.Reads as put-byte-reads
-use Rattle.lines.proofs.text.put_decimal.Reads as put-decimal-reads
-use Rattle.lines.proofs.text.put_word.Reads as put-word-reads
 
 enum-told : tie.Need-enum-told
 enum-told c = search needs
@@ -44,25 +47,25 @@ same-length : tie.Need-same-length
 same-length c = search needs
 
 returns : tie.Need-returns
-returns c = ?
+returns c = retext (sym (ap (λ (m : NoticePart). noticeText (noticeOf m)) (c .before .before .before .before .enum-told .given .1))) (wider (omega arith) (c .before .before .put-byte .ensures))
 
 same-length-2 : tie.Need-same-length-2
 same-length-2 c = search needs
 
 returns-2 : tie.Need-returns-2
-returns-2 c = ?
+returns-2 c = retext (sym (ap (λ (m : NoticePart). noticeText (noticeOf m)) (c .before .before .before .before .before .enum-told2 .given .1))) (c .before .before .put-word .ensures)
 
 same-length-3 : tie.Need-same-length-3
 same-length-3 c = search needs
 
 returns-3 : tie.Need-returns-3
-returns-3 c = ?
+returns-3 c = retext (sym (ap (λ (m : NoticePart). noticeText (noticeOf m)) (c .before .before .before .before .before .enum-told3 .given .1))) (c .before .before .put-word2 .ensures)
 
 same-length-4 : tie.Need-same-length-4
 same-length-4 c = search needs
 
 returns-4 : tie.Need-returns-4
-returns-4 c = ?
+returns-4 c = retext (sym (ap (λ (m : NoticePart). noticeText (noticeOf m)) (c .before .before .before .before .before .notice .given .1))) (c .before .before .put-decimal .ensures)
 
 pub put-notice-spec : {M : Type 1} → statement M
 put-notice-spec =

@@ -1,11 +1,13 @@
+-- `lines::text::put_refusal` meets its contract.
+-- Assumes nothing.
 use borrow.Author.Needs.{needs}
+use native.Mathlib.Omega.{arith}
+use Prim.Native.Nat.{_≤_}
+use lib.ListN.{length}
+use denote.Ref.{now}
+use Rattle.lines.proofs.Putting.{then, wider}
 use Rattle.lines.proofs.text.put_refusal.Statement.{statement}
 use Rattle.lines.proofs.text.put_refusal.Tie as tie
-use Rattle.lines.proofs.text.put_refusal.Reads as reads
-use Rattle.lines.proofs.text.put_refusal.Lts as lts
-use Rattle.lines.proofs.text.put_byte.Reads as put-byte-reads
-use Rattle.lines.proofs.text.put_decimal.Reads as put-decimal-reads
-use Rattle.lines.proofs.text.put_word.Reads as put-word-reads
 
 slice-aggregate-put-word : tie.Need-slice-aggregate-put-word
 slice-aggregate-put-word c = search needs
@@ -23,7 +25,9 @@ same-length : tie.Need-same-length
 same-length c = search needs
 
 returns : tie.Need-returns
-returns c = ?
+returns c =
+    let h : c .before .before .before .before .before .before .before .before .before .before .before .before .before .before .args .at ≤ length (now (c .before .before .before .before .before .before .before .before .before .before .before .before .before .before .args .out)) = search needs in
+    wider (omega arith) (then h (then h (c .before .before .before .before .before .before .before .before .before .before .put-word .ensures) (c .before .before .before .before .before .before .put-decimal .ensures)) (c .before .before .put-byte .ensures))
 
 pub put-refusal-spec : {M : Type 1} → statement M
 put-refusal-spec =
