@@ -1,6 +1,6 @@
 -- Laws of records: one more at the end of those handled, and where a record's bytes lie in an input.
 -- Assumes nothing.
-use mathlib.Core.Path.{_≡_, refl, sym, ap, ap₂, _∙_}
+use mathlib.Core.Path.{_≡_, refl, sym, ap, ap₂, _∙_, subst}
 use mathlib.Core.List.{List, [], _∷_, _++_, append-assoc, append-nil}
 use Prim.Native.Nat.{ℕ, zero, suc, _+_, _-_, _*_, _/_, _≤_, _<_, min}
 use native.Mathlib.Nat.{min-le-left, min-le-right, zero-add}
@@ -8,15 +8,19 @@ use native.Mathlib.Numerals.{add-one}
 use native.Mathlib.Omega.{arith}
 use lib.ListN.{length, take, drop, getD, length-append, length-drop}
 use lib.Seq.{length-take-le, take-all, drop-drop, drop-nil, take-nil, getD-take, getD-drop}
-use borrow.Author.Tests.{eq-eqb, ne-eqb}
-use Rattle.wire.specs.Reply.{refused}
-use Rattle.wire.specs.BigEndian.{be32, be32At}
+use borrow.Author.Tests.{eq-eqb, ne-eqb, le-leb, lt-leb}
+use Rattle.wire.specs.Reply.{Reply, refused}
+use Rattle.wire.specs.BigEndian.{be32, be16At, be32At}
 use Rattle.slave.specs.Answer.{Result}
-use Rattle.slave.specs.Calls.{packetOf}
+use Rattle.cadence.specs.Cadence.{admits}
+use Rattle.slave.specs.Sound.{settingsKept}
+use Rattle.slave.specs.Calls.{startOf, packetOf}
 use Rattle.slave.specs.declared.Slave.{Slave}
 use Rattle.lines.specs.Line.{lineOf, endLine}
-use Rattle.lines.specs.Log.{recordOf, slaveAfter, linesOf}
-use Rattle.lines.specs.Pieces.{handledIn, mostRecords, endingOf}
+use Rattle.lines.specs.Log.{begunBy, openedBy, openingOf, recordOf, slaveAfter, linesOf}
+use Rattle.lines.proofs.Carrying.{and-false}
+use Rattle.lines.specs.Pieces.{handledIn, mostRecords, Handled, endingOf}
+use Rattle.lines.specs.declared.Piece.{Piece}
 
 -- a record that is cut short, and a whole one
 pub record-cut : (s : Slave) (r : List ℕ) → (length r ≡ 192 → ⊥) → recordOf s r ≡ record { slave = s; reply = refused 1 }
@@ -114,3 +118,35 @@ pub ending-cut : (number : ℕ) (rest : List ℕ) → (length rest ≡ 0 → ⊥
     → lineOf number (refused 1) ++ endLine (number + 1) ≡ endingOf number rest
 unfolding endingOf
 ending-cut number rest h e = rw (ne-eqb (length rest) 0 h, ne-eqb number mostRecords e, add-one number)
+
+-- the settings at the front
+pub begun-short : (h : List ℕ) → length h < 9 → startOf 0 0 0 0 ≡ begunBy h
+unfolding begunBy startOf settingsKept
+begun-short h l = rw (lt-leb 9 (length h) l, and-false (admits 0 0))
+
+pub begun-long : (h : List ℕ) → 9 ≤ length h → startOf (getD h 0 0) (be16At h 1) (be16At h 3) (be32At h 5) ≡ begunBy h
+unfolding begunBy
+begun-long h l = rw (le-leb 9 (length h) l)
+
+pub opening-short : (h : List ℕ) → length h < 9 → openedBy 0 0 (startOf 0 0 0 0 .reply) ≡ openingOf h
+unfolding openingOf startOf settingsKept begunBy
+opening-short h l = rw (lt-leb 9 (length h) l, and-false (admits 0 0))
+
+pub opening-from : (h : List ℕ) (site n : ℕ) (r : Reply (Unit {0})) → site ≡ be16At h 3 → n ≡ be16At h 1 → r ≡ begunBy h .reply
+    → openedBy site n r ≡ openingOf h
+unfolding openingOf
+opening-from h site n r e f g = λ j. openedBy (e j) (f j) (g j)
+
+-- a whole record, as the code takes it out of an input
+pub whole-record : (i : List ℕ) (s t : Slave) (k at tick : ℕ) → t ≡ slaveAfter k s i → at ≡ 192 * k → at + 192 ≤ length i
+    → tick ≡ be32 (getD i at 0) (getD i (at + 1) 0) (getD i (at + 2) 0) (getD i (at + 3) 0)
+    → packetOf t (take (at + 192 - (at + 4)) (drop (at + 4) i)) tick ≡ recordOf (slaveAfter k s i) (recordAt k i)
+whole-record i s t k at tick es ea h et =
+    let ticks = et ∙ tick-there i at h in
+    (λ j. packetOf (es j) (packet-there i at h j) (ticks j))
+    ∙ sym (record-whole (slaveAfter k s i) (take 192 (drop at i)) (whole-there i at h))
+    ∙ ap (λ (n : ℕ). recordOf (slaveAfter k s i) (take 192 (drop n i))) ea
+
+-- as many as were to be handled
+pub handled-all : {s : Slave} {number : ℕ} {i d : List ℕ} {j k : ℕ} {d′ : List ℕ} {r : Piece} → j ≡ k → Handled s number i d j d′ r → Handled s number i d k d′ r
+handled-all {s} {number} {i} {d} {j} {k} {d′} {r} e p = subst (λ (n : ℕ). Handled s number i d n d′ r) e p

@@ -38,7 +38,7 @@ module _ (d : List ℕ) (from k : ℕ) (h : from + k < length d) where
       ∙ ap (λ (l : List ℕ). l ++ drop (suc k) d) (sym (take-suc (drop from d) k 0 (omega (arith, length-drop from d))))
       ∙ ap (λ (n : ℕ). moved d from n) (sym (add-one k))
 
-and-false : (b : Bool) → (b && false) ≡ false
+pub and-false : (b : Bool) → (b && false) ≡ false
 and-false true = refl
 and-false false = refl
 

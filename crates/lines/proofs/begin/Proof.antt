@@ -1,12 +1,17 @@
+-- `lines::begin` meets its contract.
+-- Assumes nothing.
 use borrow.Author.Needs.{needs}
+use mathlib.Core.Path.{_≡_, sym, ap, _∙_}
+use lib.ListN.{getD}
+use denote.Ref.{now}
+use Rattle.wire.specs.Reply.{Reply}
+use Rattle.slave.specs.Answer.{Moved}
+use Rattle.slave.specs.Calls.{startOf}
+use Rattle.lines.specs.Log.{begunBy, openedBy}
+use Rattle.lines.proofs.Putting.{refront}
+use Rattle.lines.proofs.Capture.{begun-short, begun-long, opening-short, opening-from}
 use Rattle.lines.proofs.begin.Statement.{statement}
 use Rattle.lines.proofs.begin.Tie as tie
-use Rattle.lines.proofs.begin.Reads as reads
-use Rattle.lines.proofs.begin.Lts as lts
-use Rattle.lines.proofs.opened.Reads as opened-reads
-use Rattle.slave.proofs.start.Reads as start-reads
-use Rattle.wire.proofs.number16.Reads as number16-reads
-use Rattle.wire.proofs.number32.Reads as number32-reads
 
 start-requires : tie.Need-start-requires
 start-requires c κs = search needs
@@ -15,7 +20,12 @@ opened-requires : tie.Need-opened-requires
 opened-requires c κs = search needs
 
 returns : tie.Need-returns
-returns c = ?
+returns c =
+    let h = now (c .before .before .before .before .before .args .head) in
+    let e = begun-short h (c .before .before .before .if1 .taken) in
+    let o = c .opened .ensures in
+    let s = c .before .before .start .ensures in
+    (o .0 ∙ s .0 ∙ ap (λ (m : Moved). m .slave) e, o .1 ∙ s .1 ∙ ap (λ (m : Moved). m .reply) e, refront (ap (λ (r : Reply (Unit {0})). openedBy 0 0 r) (s .1) ∙ opening-short h (c .before .before .before .if1 .taken)) (o .2))
 
 shared-slice-read-profile : tie.Need-shared-slice-read-profile
 shared-slice-read-profile c = search needs
@@ -60,7 +70,17 @@ opened-requires-2 : tie.Need-opened-requires-2
 opened-requires-2 c κs = search needs
 
 returns-2 : tie.Need-returns-2
-returns-2 c = ?
+returns-2 c =
+    let h = now (c .before .before .before .before .before .before .before .before .before .before .before .before .before .before .before .before .before .args .head) in
+    let n = c .before .before .before .before .before .before .before .before .before .before .before .number16 .ensures in
+    let site = c .before .before .before .before .before .before .before .before .number162 .ensures in
+    let tad = c .before .before .before .number32 .ensures in
+    let same : startOf (getD h 0 0) (c .before .before .before .before .before .before .before .before .before .before .before .number16 .result) (c .before .before .before .before .before .before .before .before .number162 .result) (c .before .before .before .number32 .result) ≡ begunBy h =
+    (λ j. startOf (getD h 0 0) (n j) (site j) (tad j)) ∙ begun-long h (c .before .before .before .before .before .before .before .before .before .before .before .before .before .before .before .if1 .left) in
+    let o = c .opened2 .ensures in
+    let s = c .before .before .start2 .ensures in
+    let reply = s .1 ∙ ap (λ (m : Moved). m .reply) same in
+    (o .0 ∙ s .0 ∙ ap (λ (m : Moved). m .slave) same, o .1 ∙ reply, refront (opening-from h _ _ _ site n reply) (o .2))
 
 pub begin-spec : {M : Type 1} → statement M
 begin-spec =

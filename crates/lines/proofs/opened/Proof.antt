@@ -1,10 +1,13 @@
+-- `lines::opened` meets its contract.
+-- Assumes nothing.
 use borrow.Author.Needs.{needs}
+use mathlib.Core.Path.{refl, sym, ap}
+use Rattle.slave.specs.Answer.{outcomeOf}
+use Rattle.slave.specs.declared.Outcome.{Outcome}
+use Rattle.lines.specs.Log.{openedBy}
+use Rattle.lines.proofs.Putting.{at-front, refront}
 use Rattle.lines.proofs.opened.Statement.{statement}
 use Rattle.lines.proofs.opened.Tie as tie
-use Rattle.lines.proofs.opened.Reads as reads
-use Rattle.lines.proofs.opened.Lts as lts
-use Rattle.lines.proofs.text.put_refusal.Reads as put-refusal-reads
-use Rattle.lines.proofs.text.put_site.Reads as put-site-reads
 
 enum-told : tie.Need-enum-told
 enum-told c = search needs
@@ -19,10 +22,16 @@ put-refusal-requires : tie.Need-put-refusal-requires
 put-refusal-requires c κs = search needs
 
 returns : tie.Need-returns
-returns c = ?
+returns c =
+    let a = c .before .before .before .before .before .args in
+    let e = c .before .before .enum-told .given .1 in
+    (refl, sym (ap (λ (o : Outcome). outcomeOf o) e), refront (sym (ap (λ (o : Outcome). openedBy (a .site) (a .n) (outcomeOf o)) e)) (at-front (c .put-site .ensures)))
 
 returns-2 : tie.Need-returns-2
-returns-2 c = ?
+returns-2 c =
+    let a = c .before .before .before .before .before .before .args in
+    let e = c .before .before .before .outcome .given .1 in
+    (refl, sym (ap (λ (o : Outcome). outcomeOf o) e), refront (sym (ap (λ (o : Outcome). openedBy (a .site) (a .n) (outcomeOf o)) e)) (at-front (c .put-refusal .ensures)))
 
 pub opened-spec : {M : Type 1} → statement M
 opened-spec =
