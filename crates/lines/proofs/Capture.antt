@@ -150,3 +150,7 @@ whole-record i s t k at tick es ea h et =
 -- as many as were to be handled
 pub handled-all : {s : Slave} {number : ℕ} {i d : List ℕ} {j k : ℕ} {d′ : List ℕ} {r : Piece} → j ≡ k → Handled s number i d j d′ r → Handled s number i d k d′ r
 handled-all {s} {number} {i} {d} {j} {k} {d′} {r} e p = subst (λ (n : ℕ). Handled s number i d n d′ r) e p
+
+pub used-within : {s : Slave} {number : ℕ} {i d : List ℕ} {d′ : List ℕ} {r : Piece} → Handled s number i d (handledIn (length i) (length d) number) d′ r
+    → r .used ≤ length i
+used-within {number = number} {i = i} {d = d} p = omega (arith, p .used, handled-bytes (length i) (length d) number)

@@ -78,3 +78,7 @@ front-then {s = s} {d = d} {d₁ = d₁} {e = e} p q =
       short = omega arith;
     })
     q)
+
+-- what stands at the front stands within
+pub fronts-within : {s d d′ : List ℕ} {e : ℕ} → Fronts s d d′ e → e ≤ length d′
+fronts-within {s = s} {d = d} p = omega (arith, p .counted, ap length (p .bytes) ∙ length-append s (drop (length s) d))
