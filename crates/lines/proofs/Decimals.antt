@@ -75,3 +75,32 @@ at-most (suc k) n h = at-most-step k n (at-most k (n / 10) (omega arith)) (ltb n
 pub at-most-20 : (n : ℕ) → n < 18_446_744_073_709_551_616 → length (decimal n) ≤ 20
 unfolding tens
 at-most-20 n h = at-most 19 n (omega arith)
+
+-- the number that digits spell
+unfoldable pub spelledFrom : ℕ → List ℕ → ℕ
+spelledFrom n [] = n
+spelledFrom n (d ∷ rest) = spelledFrom (n * 10 + (d - 48)) rest
+
+spelled-last : (n : ℕ) (l : List ℕ) (d : ℕ) → spelledFrom n (l ++ d ∷ []) ≡ spelledFrom n l * 10 + (d - 48)
+unfolding spelledFrom
+spelled-last n [] d = refl
+spelled-last n (x ∷ l) d = spelled-last (n * 10 + (x - 48)) l d
+
+spelled-one : (n : ℕ) → n < 10 → spelledFrom 0 (decimal n) ≡ n
+unfolding spelledFrom
+spelled-one n h = ap (spelledFrom 0) (decimal-one n h) ∙ omega arith
+
+-- decimal text spells its number
+pub decimal-exact : (n : ℕ) → spelledFrom 0 (decimal n) ≡ n
+decimal-exact =
+    by-digits (λ (n : ℕ). spelledFrom 0 (decimal n) ≡ n) spelled-one
+    (λ n h e. ap (spelledFrom 0) (decimal-more n h) ∙ spelled-last 0 (decimal (n / 10)) (digit (n % 10)) ∙ omega arith)
+
+-- and begins with a zero only where it is 0
+pub no-leading-zero : (n : ℕ) → 0 < n → 48 < getD (decimal n) 0 0
+no-leading-zero =
+    by-digits (λ (n : ℕ). 0 < n → 48 < getD (decimal n) 0 0)
+    (λ n h p. omega (arith, ap (λ (l : List ℕ). getD l 0 0) (decimal-one n h)))
+    (λ n h e p.
+      omega
+      (arith, e (omega arith), ap (λ (l : List ℕ). getD l 0 0) (decimal-more n h), List·getD-append (decimal (n / 10)) (digit (n % 10) ∷ []) 0 0 (omega (arith, not-empty (n / 10)))))

@@ -4,3 +4,4 @@ pub mod Putting
 pub mod Filling
 pub mod Carrying
 pub mod Capture
+pub mod Whole

@@ -66,9 +66,9 @@ linesOf (suc k) number s i =
 abbrev pub recordsIn : ℕ → ℕ
 recordsIn bytes = (bytes + 191) / recordLength
 
--- the lines of all records of an input, and the end line, which counts them
-unfoldable pub restOf : Slave → List ℕ → List ℕ
-restOf s i = linesOf (recordsIn (length i)) 0 s i ++ endLine (recordsIn (length i))
+-- the lines of all records of an input from `number` on, and the end line, which counts them all
+unfoldable pub restOf : ℕ → Slave → List ℕ → List ℕ
+restOf number s i = linesOf (recordsIn (length i)) number s i ++ endLine (number + recordsIn (length i))
 
 -- what follows the opening; nothing after a refusal
 abbrev pub unlessRefused : Reply (Unit {0}) → List ℕ → List ℕ
@@ -77,4 +77,4 @@ unlessRefused (given u) rest = rest
 
 -- the log of a whole capture
 unfoldable pub logOf : List ℕ → List ℕ
-logOf i = openingOf i ++ unlessRefused (begunBy i .reply) (restOf (begunBy i .slave) (drop settingsLength i))
+logOf i = openingOf i ++ unlessRefused (begunBy i .reply) (restOf 0 (begunBy i .slave) (drop settingsLength i))

@@ -3,7 +3,7 @@
 use mathlib.Core.Path.{_≡_}
 use Prim.Native.Nat.{ℕ, suc, _+_, _*_, _-_, _/_, min}
 use mathlib.Core.Bool.{cond, _&&_, _||_}
-use mathlib.Core.List.{List, _++_}
+use mathlib.Core.List.{List, [], _∷_, _++_}
 use lib.Dec.{eqb, leb}
 use lib.ListN.{length, take, drop}
 use Rattle.wire.specs.Reply.{refused}
@@ -42,3 +42,17 @@ endingOf number rest =
 -- the bytes from `from` to `to` moved to the front
 unfoldable pub carried : List ℕ → ℕ → ℕ → List ℕ
 carried d from to = cond (leb from to && leb to (length d)) (take (to - from) (drop from d) ++ drop (to - from) d) d
+
+-- all that a program writes after the opening that reads a capture in some pieces: for each, the lines of the records that are whole in
+-- what is left of the pieces before and in this one; then the end
+unfoldable pub inPieces : ℕ → Slave → List ℕ → List (List ℕ) → List ℕ
+inPieces number s held [] = endingOf number held
+inPieces number s held (piece ∷ pieces) =
+    let i : List ℕ = held ++ piece in
+    let k : ℕ = length i / recordLength in
+    linesOf k number s i ++ inPieces (number + k) (slaveAfter k s i) (drop (recordLength * k) i) pieces
+
+-- the pieces one behind the other
+unfoldable pub joined : List (List ℕ) → List ℕ
+joined [] = []
+joined (piece ∷ pieces) = piece ++ joined pieces
