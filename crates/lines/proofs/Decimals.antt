@@ -102,5 +102,5 @@ no-leading-zero =
     by-digits (λ (n : ℕ). 0 < n → 48 < getD (decimal n) 0 0)
     (λ n h p. omega (arith, ap (λ (l : List ℕ). getD l 0 0) (decimal-one n h)))
     (λ n h e p.
-      omega
-      (arith, e (omega arith), ap (λ (l : List ℕ). getD l 0 0) (decimal-more n h), List·getD-append (decimal (n / 10)) (digit (n % 10) ∷ []) 0 0 (omega (arith, not-empty (n / 10)))))
+    omega
+    (arith, e (omega arith), ap (λ (l : List ℕ). getD l 0 0) (decimal-more n h), List·getD-append (decimal (n / 10)) (digit (n % 10) ∷ []) 0 0 (omega (arith, not-empty (n / 10)))))

@@ -94,12 +94,12 @@ fn put_mark(out: &mut [u8], at: usize, mark: MarkPart) -> usize
         MarkPart::Untimed => put_word(out, at, b"untimed"),
         MarkPart::Late => put_word(out, at, b"late"),
         MarkPart::Dvb(t) => {
-            let emission = t.emission;
-            put_decimal(out, at, emission.0 as u64)
+            let steps = t.emission;
+            put_decimal(out, at, steps.0 as u64)
         }
         MarkPart::A110(t) => {
-            let emission = t.emission;
-            put_decimal(out, at, emission.0 as u64)
+            let periods = t.emission;
+            put_decimal(out, at, periods.0 as u64)
         }
     }
 }
