@@ -5,3 +5,4 @@ pub mod Filling
 pub mod Carrying
 pub mod Capture
 pub mod Whole
+pub mod Sample
