@@ -1,14 +1,16 @@
 -- Laws of records: one more at the end of those handled, and where a record's bytes lie in an input.
 -- Assumes nothing.
 use mathlib.Core.Path.{_≡_, refl, sym, ap, ap₂, _∙_, subst}
+use mathlib.Core.Bool.{Bool, true, false}
 use mathlib.Core.List.{List, [], _∷_, _++_, append-assoc, append-nil}
 use Prim.Native.Nat.{ℕ, zero, suc, _+_, _-_, _*_, _/_, _≤_, _<_, min}
-use native.Mathlib.Nat.{min-le-left, min-le-right, zero-add}
+use native.Mathlib.Nat.{min-le-left, min-le-right, min-eq-left, min-eq-right, zero-add}
 use native.Mathlib.Numerals.{add-one}
 use native.Mathlib.Omega.{arith}
 use lib.ListN.{length, take, drop, getD, length-append, length-drop}
-use lib.Seq.{length-take-le, take-all, drop-drop, drop-nil, take-nil, getD-take, getD-drop}
-use borrow.Author.Tests.{eq-eqb, ne-eqb, le-leb, lt-leb}
+use lib.Dec.{leb}
+use lib.Seq.{length-take-le, take-length, take-all, drop-drop, drop-nil, take-nil, getD-take, getD-drop}
+use borrow.Author.Tests.{eq-eqb, ne-eqb, le-leb, lt-leb, leb-true, leb-false}
 use Rattle.wire.specs.Reply.{Reply, refused}
 use Rattle.wire.specs.BigEndian.{be32, be16At, be32At}
 use Rattle.slave.specs.Answer.{Result}
@@ -18,7 +20,7 @@ use Rattle.slave.specs.Calls.{startOf, packetOf}
 use Rattle.slave.specs.declared.Slave.{Slave}
 use Rattle.lines.specs.Line.{lineOf, endLine}
 use Rattle.lines.specs.Log.{begunBy, openedBy, openingOf, recordOf, slaveAfter, linesOf}
-use Rattle.lines.proofs.Carrying.{and-false}
+use Rattle.lines.proofs.Carrying.{and-false, drop-take}
 use Rattle.lines.specs.Pieces.{handledIn, mostRecords, Handled, endingOf}
 use Rattle.lines.specs.declared.Piece.{Piece}
 
@@ -80,13 +82,6 @@ handled-number bytes room number =
     (arith, min-le-right (bytes / 192) (min (room / 128) (mostRecords - number)), min-le-right (room / 128) (mostRecords - number))
 
 -- the packet and the tick of a whole record, where the code reads them
-drop-take : (m n : ℕ) (l : List ℕ) → drop m (take (m + n) l) ≡ take n (drop m l)
-drop-take zero n l = ap (λ (k : ℕ). take k l) (zero-add n)
-drop-take (suc m) n [] =
-    let e : suc m + n ≡ suc (m + n) = omega arith in ap (λ (k : ℕ). drop {A = ℕ} (suc m) (take k [])) e ∙ sym (take-nil n)
-drop-take (suc m) n (x ∷ l) =
-    let e : suc m + n ≡ suc (m + n) = omega arith in ap (λ (k : ℕ). drop (suc m) (take k (x ∷ l))) e ∙ drop-take m n l
-
 module _ (i : List ℕ) (at : ℕ) (h : at + 192 ≤ length i) where
   pub whole-there : length (take 192 (drop at i)) ≡ 192
   whole-there = length-take-le 192 (drop at i) (omega (arith, length-drop at i))
@@ -154,3 +149,20 @@ handled-all {s} {number} {i} {d} {j} {k} {d′} {r} e p = subst (λ (n : ℕ). H
 pub used-within : {s : Slave} {number : ℕ} {i d : List ℕ} {d′ : List ℕ} {r : Piece} → Handled s number i d (handledIn (length i) (length d) number) d′ r
     → r .used ≤ length i
 used-within {number = number} {i = i} {d = d} p = omega (arith, p .used, handled-bytes (length i) (length d) number)
+
+take-min-by : (n : ℕ) (d : List ℕ) (b : Bool) → leb n (length d) ≡ b → take (min n (length d)) d ≡ take n d
+take-min-by n d true e = ap (λ (k : ℕ). take k d) (min-eq-left (leb-true n (length d) e))
+take-min-by n d false e =
+    let h : length d < n = leb-false n (length d) e in
+    ap (λ (k : ℕ). take k d) (min-eq-right {n = length d} {m = n} (omega arith)) ∙ take-length d ∙ sym (take-all n d (omega arith))
+
+-- the piece in the first n bytes ends where the buffer ends
+pub take-min : (n : ℕ) (d : List ℕ) → take (min n (length d)) d ≡ take n d
+take-min n d = take-min-by n d (leb n (length d)) refl
+
+-- what `records` leaves of a piece
+pub piece-handled : (s : Slave) (number n : ℕ) (d p out out′ : List ℕ) (r : Piece) → p ≡ take n d
+    → Handled s number p out (handledIn (length p) (length out) number) out′ r
+    → Handled s number (take n d) out (handledIn (length (take n d)) (length out) number) out′ r
+piece-handled s number n d p out out′ r e h =
+    subst (λ (x : List ℕ). Handled s number x out (handledIn (length x) (length out) number) out′ r) e h

@@ -3,11 +3,12 @@
 use mathlib.Core.Path.{_≡_, refl, sym, ap, ap₂, _∙_}
 use mathlib.Core.Bool.{Bool, true, false, _&&_}
 use mathlib.Core.List.{List, [], _∷_, _++_}
-use Prim.Native.Nat.{ℕ, suc, _+_, _-_, _≤_, _<_}
+use Prim.Native.Nat.{ℕ, zero, suc, _+_, _-_, _≤_, _<_}
+use native.Mathlib.Nat.{zero-add}
 use native.Mathlib.Numerals.{add-one}
 use native.Mathlib.Omega.{arith}
 use lib.ListN.{length, take, drop, set, getD, length-drop}
-use lib.Seq.{length-take-le, take-suc, drop-cons, append-snoc, set-at, getD-append-add, getD-drop}
+use lib.Seq.{length-take-le, take-nil, take-at, take-suc, drop-cons, append-snoc, set-at, getD-append-add, getD-drop}
 use lib.Dec.{leb}
 use borrow.Author.Tests.{le-leb, lt-leb}
 use Rattle.lines.specs.Pieces.{carried}
@@ -53,3 +54,19 @@ carried-back d from to h = rw (lt-leb from to h)
 pub carried-all : (d : List ℕ) (from to k : ℕ) → from ≤ to → to ≤ length d → k ≡ to - from → moved d from k ≡ carried d from to
 unfolding carried
 carried-all d from to k h l e = rw (le-leb from to h, le-leb to (length d) l) (ap (moved d from) e)
+
+-- the bytes that are moved
+pub drop-take : (m n : ℕ) (l : List ℕ) → drop m (take (m + n) l) ≡ take n (drop m l)
+drop-take zero n l = ap (λ (k : ℕ). take k l) (zero-add n)
+drop-take (suc m) n [] =
+    let e : suc m + n ≡ suc (m + n) = omega arith in ap (λ (k : ℕ). drop {A = ℕ} (suc m) (take k [])) e ∙ sym (take-nil n)
+drop-take (suc m) n (x ∷ l) =
+    let e : suc m + n ≡ suc (m + n) = omega arith in ap (λ (k : ℕ). drop (suc m) (take k (x ∷ l))) e ∙ drop-take m n l
+
+pub carried-front : (d : List ℕ) (from to : ℕ) → from ≤ to → to ≤ length d → take (to - from) (carried d from to) ≡ drop from (take to d)
+carried-front d from to h l =
+    let e : from + (to - from) ≡ to = omega arith in
+    ap (take (to - from)) (sym (carried-all d from to (to - from) h l refl))
+    ∙ take-at (take (to - from) (drop from d)) (drop (to - from) d) (to - from) (length-take-le (to - from) (drop from d) (omega (arith, length-drop from d)))
+    ∙ sym (drop-take from (to - from) d)
+    ∙ ap (λ (n : ℕ). drop from (take n d)) e

@@ -7,17 +7,19 @@ use Prim.Native.Nat.{ℕ, zero, suc, _+_, _*_, _/_, _-_, _≤_, _<_, min}
 use native.Mathlib.Nat.{zero-add, min-eq-left, min-eq-right, le-min}
 use native.Mathlib.Numerals.{add-one}
 use native.Mathlib.Omega.{arith}
-use lib.ListN.{length, take, drop, length-append, length-drop}
-use lib.Seq.{take-all, take-append-le, drop-append-le, drop-drop}
+use lib.ListN.{length, take, drop, getD, length-append, length-drop, List·getD-append}
+use lib.Seq.{take-all, take-append-le, drop-append-le, drop-drop, drop-at}
 use lib.Dec.{eqb}
-use borrow.Author.Tests.{eqb-true, eqb-false}
+use borrow.Author.Tests.{eqb-true, eqb-false, lt-leb}
 use Rattle.wire.specs.Reply.{refused}
+use Rattle.wire.specs.BigEndian.{be16, be32, be16At}
 use Rattle.slave.specs.Answer.{Result}
+use Rattle.slave.specs.Calls.{startOf}
 use Rattle.slave.specs.declared.Slave.{Slave}
-use Rattle.lines.specs.Line.{lineOf, endLine}
-use Rattle.lines.specs.Log.{recordOf, slaveAfter, linesOf, recordsIn, restOf}
+use Rattle.lines.specs.Line.{refusalText, lineOf, endLine}
+use Rattle.lines.specs.Log.{begunBy, openedBy, openingOf, recordOf, slaveAfter, linesOf, recordsIn, restOf, unlessRefused, logOf}
 use Rattle.lines.specs.Pieces.{mostRecords, handledIn, endingOf, inPieces, joined}
-use Rattle.lines.proofs.Capture.{record-cut, ending-empty, ending-cut}
+use Rattle.lines.proofs.Capture.{record-cut, ending-empty, ending-cut, begun-long}
 
 -- j records and then k more are j + k records
 pub slave-then : (j k : ℕ) (s : Slave) (i : List ℕ) → slaveAfter (j + k) s i ≡ slaveAfter k (slaveAfter j s i) (drop (192 * j) i)
@@ -124,3 +126,44 @@ pieces-whole number s held (piece ∷ pieces) h l =
 pub handles-whole : (bytes room number : ℕ) → bytes / 192 ≤ room / 128 → number + bytes / 192 ≤ mostRecords → handledIn bytes room number ≡ bytes / 192
 unfolding handledIn
 handles-whole bytes room number h l = min-eq-left (le-min h (omega arith))
+
+-- the settings are the first nine bytes, whatever follows
+module _ (h later : List ℕ) (nine : length h ≡ 9) where
+  byte : (k : ℕ) → k < 9 → getD (h ++ later) k 0 ≡ getD h k 0
+  byte k l = List·getD-append h later 0 k (omega arith)
+
+  enough : 9 ≤ length (h ++ later)
+  enough = omega (arith, length-append h later)
+
+  site : be16At (h ++ later) 3 ≡ be16At h 3
+  site = λ j. be16 (byte 3 (omega arith) j) (byte 4 (omega arith) j)
+
+  cadence : be16At (h ++ later) 1 ≡ be16At h 1
+  cadence = λ j. be16 (byte 1 (omega arith) j) (byte 2 (omega arith) j)
+
+  begun-front : begunBy (h ++ later) ≡ begunBy h
+  begun-front =
+      sym (begun-long (h ++ later) enough)
+      ∙ (λ j. startOf (byte 0 (omega arith) j) (cadence j) (site j) (be32 (byte 5 (omega arith) j) (byte 6 (omega arith) j) (byte 7 (omega arith) j) (byte 8 (omega arith) j)))
+      ∙ begun-long h (omega arith)
+
+  opening-front : openingOf (h ++ later) ≡ openingOf h
+  unfolding openingOf
+  opening-front = λ j. openedBy (site j) (cadence j) (begun-front j .reply)
+
+-- a program that reads the settings and then any pieces prints the log of the whole capture
+pub log-in-pieces : (h : List ℕ) (pieces : List (List ℕ)) → length h ≡ 9 → recordsIn (length (joined pieces)) ≤ mostRecords
+    → openingOf h ++ unlessRefused (begunBy h .reply) (inPieces 0 (begunBy h .slave) [] pieces) ≡ logOf (h ++ joined pieces)
+unfolding logOf
+log-in-pieces h pieces nine l =
+    let later : List ℕ = joined pieces in
+    ap (λ (x : List ℕ). openingOf h ++ unlessRefused (begunBy h .reply) x) (pieces-whole 0 (begunBy h .slave) [] pieces (omega arith) (omega arith))
+    ∙ sym
+    (λ j.
+    opening-front h later nine j
+    ++ unlessRefused (begun-front h later nine j .reply) (restOf 0 (begun-front h later nine j .slave) (drop-at h later 9 nine j)))
+
+-- short settings print the refusal alone
+pub log-short : (h : List ℕ) → length h < 9 → logOf h ≡ refusalText 15
+unfolding logOf openingOf begunBy
+log-short h l = rw (lt-leb 9 (length h) l) (append-nil (refusalText 15))

@@ -12,6 +12,7 @@ use Rattle.slave.specs.declared.Slave.{Slave}
 use Rattle.lines.specs.Log.{recordLength, slaveAfter, linesOf}
 use Rattle.lines.specs.Puts.{Fronts}
 use Rattle.lines.specs.declared.Piece.{Piece}
+use Rattle.lines.specs.declared.Held.{Held}
 
 -- no line is longer
 abbrev pub lineRoom : ℕ
@@ -32,16 +33,24 @@ pub record Handled (s : Slave) (number : ℕ) (i d : List ℕ) (k : ℕ) (d′ :
   pub used : r .used ≡ recordLength * k
   pub lines : Fronts (linesOf k number s i) d d′ (r .filled)
 
+-- the bytes from `from` to `to` moved to the front
+unfoldable pub carried : List ℕ → ℕ → ℕ → List ℕ
+carried d from to = cond (leb from to && leb to (length d)) (take (to - from) (drop from d) ++ drop (to - from) d) d
+
+-- what a call leaves that handles the first k records of a piece in the first n bytes of its input d: what is left of the piece comes first
+pub record PieceTaken (s : Slave) (number n : ℕ) (d out : List ℕ) (k : ℕ) (d′ out′ : List ℕ) (r : Held) : Type 0 where
+  pub slave : r .slave ≡ slaveAfter k s (take n d)
+  pub next : r .number ≡ number + k
+  pub lines : Fronts (linesOf k number s (take n d)) out out′ (r .filled)
+  pub kept : d′ ≡ carried d (recordLength * k) (min n (length d))
+  pub held : r .held ≡ min n (length d) - recordLength * k
+
 -- the end: bytes that are left are a record cut short, and count
 unfoldable pub endingOf : ℕ → List ℕ → List ℕ
 endingOf number rest =
     cond (eqb (length rest) 0 || eqb number mostRecords)
     (endLine number)
     (lineOf number (refused 1) ++ endLine (suc number))
-
--- the bytes from `from` to `to` moved to the front
-unfoldable pub carried : List ℕ → ℕ → ℕ → List ℕ
-carried d from to = cond (leb from to && leb to (length d)) (take (to - from) (drop from d) ++ drop (to - from) d) d
 
 -- all that a program writes after the opening that reads a capture in some pieces: for each, the lines of the records that are whole in
 -- what is left of the pieces before and in this one; then the end

@@ -5,12 +5,12 @@ use slave::Shifted;
 use slave::Slave;
 ghost use mathlib.Core.Path.{_≡_};
 ghost use Prim.Native.Nat.{min};
-ghost use lib.ListN.{length};
+ghost use lib.ListN.{length, take};
 ghost use Rattle.slave.specs.Answer.{outcomeOf};
 ghost use Rattle.lines.specs.Line.{lineOf};
 ghost use Rattle.lines.specs.Log.{begunBy, openedBy, openingOf, recordOf};
 ghost use Rattle.lines.specs.Puts.{Fronts};
-ghost use Rattle.lines.specs.Pieces.{handledIn, Handled, endingOf, carried};
+ghost use Rattle.lines.specs.Pieces.{handledIn, Handled, PieceTaken, endingOf, carried};
 
 mod text;
 
@@ -33,6 +33,14 @@ pub struct Piece {
     pub number: u64,
     pub used: usize,
     pub filled: usize,
+}
+
+// What a piece leaves that is read into a buffer: held bytes of it stand at the buffer's front.
+pub struct Held {
+    pub slave: Slave,
+    pub number: u64,
+    pub filled: usize,
+    pub held: usize,
 }
 
 // The site line where the slave was started, or the refusal alone.
@@ -140,6 +148,24 @@ pub fn records(s: Slave, number: u64, input: &[u8], out: &mut [u8]) -> Piece
         number: next,
         used: used,
         filled: end,
+    }
+}
+
+// A piece of a capture stands in the first n bytes of the input: writes the lines of its whole records, and moves what is left of it to the
+// front. An n beyond the input is the whole input.
+pub fn take_piece(s: Slave, number: u64, n: usize, input: &mut [u8], out: &mut [u8]) -> Held
+    ensures { λ r. ⌜ PieceTaken s number n (now (input .entry)) (now (out .entry)) (handledIn (length (take n (now (input .entry)))) (length (now (out .entry))) number) (now (input .exit)) (now (out .exit)) r ⌝ }
+{
+    let end = least(n, input.len());
+    let p = records(s, number, &input[..end], out);
+    let after = p.slave;
+    let used = p.used;
+    carry(input, used, end);
+    Held {
+        slave: after,
+        number: p.number,
+        filled: p.filled,
+        held: end - used,
     }
 }
 

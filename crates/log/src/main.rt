@@ -53,26 +53,6 @@ fn stop(at: Place, failed: bool) -> Place
     }
 }
 
-// Writes the lines of the records in the first n bytes, and moves what is left of them to the front.
-fn handle(s: Slave, number: u64, n: usize, input: &mut [u8], output: &mut [u8]) -> Place
-    requires { ⌜ n ≤ length (now input) ⌝ }
-    ensures { λ r. ⌜ r .held ≤ length (now (input .exit)) ⌝ }
-{
-    let p = lines::records(s, number, &input[..n], output);
-    let after = p.slave;
-    let filled = p.filled;
-    let used = p.used;
-    let done = write(&output[..filled]);
-    lines::carry(input, used, n);
-    Place {
-        slave: after,
-        number: p.number,
-        held: n - used,
-        more: done,
-        failed: !done,
-    }
-}
-
 // One read, and the lines of what came.
 fn turn(at: Place, input: &mut [u8], output: &mut [u8]) -> Place
     requires { ⌜ at .held ≤ length (now input) ⌝ }
@@ -89,7 +69,17 @@ fn turn(at: Place, input: &mut [u8], output: &mut [u8]) -> Place
     }
     let n = held + io::count(got, &input[held..]);
     let s = at.slave;
-    handle(s, at.number, n, input, output)
+    let p = lines::take_piece(s, at.number, n, input, output);
+    let after = p.slave;
+    let filled = p.filled;
+    let done = write(&output[..filled]);
+    Place {
+        slave: after,
+        number: p.number,
+        held: p.held,
+        more: done,
+        failed: !done,
+    }
 }
 
 // The end: what is left is a record cut short.
