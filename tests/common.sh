@@ -7,6 +7,11 @@ proved() {
     rt staticlib probe
 }
 
+# The log program as target/bin/log.
+program() {
+    rt check log
+}
+
 # build NAME WORDS...: target/tests/NAME from tests/NAME.rs, offline and with the standard library alone.
 build() {
     name=$1

@@ -1,0 +1,67 @@
+-- A capture comes in pieces: how many records a call handles at once, and what it does with the bytes that are left at the end.
+-- Assumes nothing.
+use mathlib.Core.Path.{_≡_}
+use Prim.Native.Nat.{ℕ, suc, _+_, _*_, _-_, _/_, min}
+use mathlib.Core.Bool.{cond, _&&_, _||_}
+use mathlib.Core.List.{List, [], _∷_, _++_}
+use lib.Dec.{eqb, leb}
+use lib.ListN.{length, take, drop}
+use Rattle.wire.specs.Reply.{refused}
+use Rattle.lines.specs.Line.{lineOf, endLine}
+use Rattle.slave.specs.declared.Slave.{Slave}
+use Rattle.lines.specs.Log.{recordLength, slaveAfter, linesOf}
+use Rattle.lines.specs.Puts.{Fronts}
+use Rattle.lines.specs.declared.Piece.{Piece}
+use Rattle.lines.specs.declared.Held.{Held}
+
+-- no line is longer
+abbrev pub lineRoom : ℕ
+lineRoom = 128
+
+-- a log's records are counted in 64 bits; it ends after so many
+abbrev pub mostRecords : ℕ
+mostRecords = 18_446_744_073_709_551_615
+
+-- as many records as are whole in so many bytes, as have room for their lines, and as can be counted
+unfoldable pub handledIn : ℕ → ℕ → ℕ → ℕ
+handledIn bytes room number = min (bytes / recordLength) (min (room / lineRoom) (mostRecords - number))
+
+-- what a call leaves that handles the first k records of an input
+pub record Handled (s : Slave) (number : ℕ) (i d : List ℕ) (k : ℕ) (d′ : List ℕ) (r : Piece) : Type 0 where
+  pub slave : r .slave ≡ slaveAfter k s i
+  pub next : r .number ≡ number + k
+  pub used : r .used ≡ recordLength * k
+  pub lines : Fronts (linesOf k number s i) d d′ (r .filled)
+
+-- the bytes from `from` to `to` moved to the front
+unfoldable pub carried : List ℕ → ℕ → ℕ → List ℕ
+carried d from to = cond (leb from to && leb to (length d)) (take (to - from) (drop from d) ++ drop (to - from) d) d
+
+-- what a call leaves that handles the first k records of a piece in the first n bytes of its input d: what is left of the piece comes first
+pub record PieceTaken (s : Slave) (number n : ℕ) (d out : List ℕ) (k : ℕ) (d′ out′ : List ℕ) (r : Held) : Type 0 where
+  pub slave : r .slave ≡ slaveAfter k s (take n d)
+  pub next : r .number ≡ number + k
+  pub lines : Fronts (linesOf k number s (take n d)) out out′ (r .filled)
+  pub kept : d′ ≡ carried d (recordLength * k) (min n (length d))
+  pub held : r .held ≡ min n (length d) - recordLength * k
+
+-- the end: bytes that are left are a record cut short, and count
+unfoldable pub endingOf : ℕ → List ℕ → List ℕ
+endingOf number rest =
+    cond (eqb (length rest) 0 || eqb number mostRecords)
+    (endLine number)
+    (lineOf number (refused 1) ++ endLine (suc number))
+
+-- all that a program writes after the opening that reads a capture in some pieces: for each, the lines of the records that are whole in
+-- what is left of the pieces before and in this one; then the end
+unfoldable pub inPieces : ℕ → Slave → List ℕ → List (List ℕ) → List ℕ
+inPieces number s held [] = endingOf number held
+inPieces number s held (piece ∷ pieces) =
+    let i : List ℕ = held ++ piece in
+    let k : ℕ = length i / recordLength in
+    linesOf k number s i ++ inPieces (number + k) (slaveAfter k s i) (drop (recordLength * k) i) pieces
+
+-- the pieces one behind the other
+unfoldable pub joined : List (List ℕ) → List ℕ
+joined [] = []
+joined (piece ∷ pieces) = piece ++ joined pieces

@@ -1,0 +1,346 @@
+//! Compares what the log program prints with the other implementation, byte for byte, over random captures in pipes of many sizes.
+//!
+//! compare_log PROGRAM [SEED [COUNT]]         random captures, at most 20,000; fails on a difference or on a word never printed
+//! compare_log PROGRAM faults [SEED [COUNT]]  seeds each fault into the other implementation; fails if one is not found
+
+#![allow(dead_code)] // parts of the shared modules are for other comparisons alone
+
+#[macro_use]
+#[path = "other/faults.rs"]
+mod faults;
+#[path = "other/ground.rs"]
+mod ground;
+mod inputs;
+#[path = "other/log.rs"]
+mod log;
+#[path = "other/slave.rs"]
+mod slave;
+
+use ground::Notice;
+use inputs::Random;
+use log::faults::{seed, FAULTS};
+use log::SETTINGS;
+use std::collections::BTreeMap;
+use std::io::{Read, Write};
+use std::os::fd::{AsRawFd, RawFd};
+use std::process::{ChildStdin, Command, ExitCode, Stdio};
+
+const SEED: u64 = 1;
+const COUNT: u64 = 2_000;
+const FAULT_COUNT: u64 = 300;
+/// A capture takes a process and its pipes.
+const MOST: u64 = 20_000;
+
+fn main() -> ExitCode {
+    let words: Vec<String> = std::env::args().skip(1).collect();
+    let Some((program, words)) = words.split_first() else {
+        eprintln!("usage: compare_log PROGRAM [faults] [SEED [COUNT]]");
+        return ExitCode::FAILURE;
+    };
+    let find = words.first().is_some_and(|w| w == "faults");
+    let numbers = &words[usize::from(find)..];
+    let number = |at: usize, default: u64| numbers.get(at).map_or(default, |w| w.parse().expect("SEED and COUNT are numbers"));
+    let (from, count) = (number(0, SEED), number(1, if find { FAULT_COUNT } else { COUNT }).clamp(1, MOST));
+    let passed = if find { find_faults(program, from, count) } else { compare(program, from, count) };
+    if passed {
+        ExitCode::SUCCESS
+    } else {
+        ExitCode::FAILURE
+    }
+}
+
+// ---- Captures
+
+/// Settings that start a slave, or ones that do not: out of their limits, or short.
+fn settings(r: &mut Random, odd: bool) -> Vec<u8> {
+    let profile = u8::from(r.one_in(10));
+    let cadences: Vec<u16> = ground::dvb_cadences().collect();
+    let n = if profile == 1 { 624 } else { r.pick(&cadences) };
+    let site = r.pick(&[1, 7, 256, 65_535, r.0 as u16 | 1]);
+    let tad = if r.one_in(2) { 0 } else { r.below(1_000) as u32 };
+    let put = |profile: u8, n: u16, site: u16, tad: u32| [&[profile][..], &n.to_be_bytes(), &site.to_be_bytes(), &tad.to_be_bytes()].concat();
+    if !odd {
+        return put(profile, n, site, tad);
+    }
+    match r.below(6) {
+        0 => put(profile, n, 0, tad),
+        1 => put(profile, n ^ 1, site, tad),
+        2 => put(1 - profile, n, site, tad),
+        3 => put(r.pick(&[2, 128, 255]), n, site, tad),
+        4 => put(profile, n, site, r.pick(&[10_000_000, 19_392_658, u32::MAX])),
+        _ => put(profile, n, site, tad)[..r.pick(&[0, 1, 8, 8, r.0 as usize % SETTINGS])].to_vec(),
+    }
+}
+
+/// A capture: packets of an adapter's stream with losses, damage and wrong notices, the last perhaps cut short.
+fn capture(r: &mut Random) -> Vec<u8> {
+    let odd = r.one_in(12);
+    let mut capture = settings(r, odd);
+    if capture.len() < SETTINGS {
+        return capture;
+    }
+    let (profile, n) = (capture[0], u16::from_be_bytes([capture[1], capture[2]]).max(2));
+    let site = u16::from_be_bytes([capture[3], capture[4]]);
+    let second = if profile == 1 { ground::A110_SECOND } else { ground::DVB_SECOND };
+    let records = match r.below(20) {
+        0 => 0,
+        1 => 1_000 + r.below(1_200),
+        2..=4 => r.below(300),
+        _ => r.below(40),
+    };
+    let (mut sts, mut md) = (r.below(10_000_000) as u32, r.below(900_000) as u32);
+    let mut label = n - 1 - r.below(6).min(usize::from(n) - 1) as u16;
+    for _ in 0..records {
+        if r.one_in(30) {
+            label = (u32::from(label) + r.below(5) as u32) as u16 % n;
+        }
+        if r.one_in(15) {
+            label = n - 1 - r.below(4).min(usize::from(n) - 1) as u16;
+        }
+        let mut packet = match r.below(24) {
+            0 => inputs::damaged(r, site),
+            1 => inputs::packet(r, site),
+            2 => r.bytes(188),
+            3 => [&[r.pick(&[0x46, 0, 0xFF])][..], &r.bytes(187)].concat(),
+            4 => [&[0x47, 0x80 | r.next() as u8][..], &r.bytes(186)].concat(),
+            5..=9 => {
+                if r.one_in(8) {
+                    (sts, md) = (r.below(10_000_000) as u32, r.below(900_000) as u32);
+                }
+                let pointer = if r.one_in(10) { r.below(usize::from(n)) as u16 } else { n - 1 - label };
+                let field = if r.one_in(2) { Vec::new() } else { inputs::field(r, site, 60) };
+                let mut packet = inputs::packet_of(&Notice { pointer, sts, md, ..inputs::notice(r) }, &field);
+                if r.one_in(12) {
+                    packet[24] ^= 1;
+                }
+                packet
+            }
+            10..=13 => [&[0x47, r.below(32) as u8][..], &r.bytes(186)].concat(),
+            _ => [&[0x47, 0x1F, 0xFF, 0x10][..], &[0xFF; 184]].concat(),
+        };
+        let tick = match r.below(16) {
+            0 => r.pick(&inputs::edges(second)),
+            1 => r.below(second as usize) as u32,
+            _ => (sts + r.below(2 * md as usize + 1) as u32) % second,
+        };
+        // A packet of another length shifts every record after it.
+        if !r.one_in(500) {
+            packet.resize(188, 0);
+        }
+        capture.extend(tick.to_be_bytes());
+        capture.extend(&packet);
+        label = (label + 1) % n;
+    }
+    if r.one_in(3) {
+        let cut = r.pick(&[1, 3, 4, 5, 191, 1 + r.0 as usize % 191]);
+        capture.extend([&[0, 0, 0, 5, 0x47][..], &r.bytes(187)].concat()[..cut].iter());
+    }
+    capture
+}
+
+// ---- Pipes
+
+/// How a capture reaches the program.
+#[derive(Clone, Copy, Debug)]
+enum Delivery {
+    /// So many bytes at a time, each piece read before the next is written.
+    Pieces(usize),
+    /// Pieces of random sizes up to this one.
+    Random(usize),
+}
+
+extern "C" {
+    fn ioctl(fd: i32, request: u64, argument: *mut i32) -> i32;
+}
+
+/// How many bytes of a pipe are not read yet.
+fn unread(pipe: RawFd) -> i32 {
+    const FIONREAD: u64 = 0x541B;
+    let mut bytes = 0;
+    // The call writes one int, and the descriptor is open.
+    unsafe { ioctl(pipe, FIONREAD, &mut bytes) };
+    bytes
+}
+
+fn deliver(mut pipe: ChildStdin, capture: &[u8], delivery: Delivery, r: &mut Random) {
+    let mut rest = capture;
+    while !rest.is_empty() {
+        let size = match delivery {
+            Delivery::Pieces(size) => size,
+            Delivery::Random(most) => 1 + r.below(most),
+        };
+        let (piece, after) = rest.split_at(size.min(rest.len()));
+        // A program that refuses the settings stops reading.
+        if pipe.write_all(piece).is_err() {
+            return;
+        }
+        while !after.is_empty() && unread(pipe.as_raw_fd()) > 0 {
+            std::thread::yield_now();
+            if pipe_closed(&mut pipe) {
+                return;
+            }
+        }
+        rest = after;
+    }
+}
+
+/// Nobody reads the pipe any more.
+fn pipe_closed(pipe: &mut ChildStdin) -> bool {
+    extern "C" {
+        fn poll(fds: *mut PollFd, count: u64, timeout: i32) -> i32;
+    }
+    #[repr(C)]
+    struct PollFd {
+        fd: i32,
+        events: i16,
+        found: i16,
+    }
+    const POLLERR: i16 = 8;
+    let mut asked = PollFd { fd: pipe.as_raw_fd(), events: 0, found: 0 };
+    // One entry is lent, and the count says so.
+    unsafe { poll(&mut asked, 1, 0) };
+    asked.found & POLLERR != 0
+}
+
+/// What the program prints.
+fn run(program: &str, capture: &[u8], delivery: Delivery, r: &mut Random) -> Vec<u8> {
+    let mut child = Command::new(program).stdin(Stdio::piped()).stdout(Stdio::piped()).spawn().expect("the program starts");
+    let (pipe, mut output) = (child.stdin.take().unwrap(), child.stdout.take().unwrap());
+    let mut random = Random(r.next() | 1);
+    let mut printed = Vec::new();
+    std::thread::scope(|scope| {
+        scope.spawn(|| deliver(pipe, capture, delivery, &mut random));
+        output.read_to_end(&mut printed).expect("the program's output is read");
+    });
+    child.wait().expect("the program ends");
+    printed
+}
+
+// ---- Comparing
+
+/// The kinds of lines and words that must be printed.
+const KINDS: &[&str] = &[
+    "refused alone",
+    "no record",
+    "none",
+    "taken",
+    "slip",
+    "ignored",
+    "ignored hunting",
+    "untimed",
+    "late",
+    "emission",
+    "refused 1",
+    "refused 2",
+    "refused 3",
+    "over 1,024",
+];
+
+fn kinds(printed: &[u8], mut saw: impl FnMut(&'static str)) {
+    let text = String::from_utf8_lossy(printed);
+    if text == "refused 15\n" {
+        return saw("refused alone");
+    }
+    let lines: Vec<&str> = text.lines().collect();
+    if lines.len() == 2 {
+        saw("no record");
+    }
+    if lines.len() > 1_026 {
+        saw("over 1,024");
+    }
+    for line in &lines[1..lines.len() - 1] {
+        match line.split(' ').collect::<Vec<_>>()[1..] {
+            ["refused", k @ ("1" | "2" | "3")] => saw(["refused 1", "refused 2", "refused 3"][k.parse::<usize>().unwrap() - 1]),
+            [label, notice, mark] => {
+                saw(match (label, notice) {
+                    (_, "-") => "none",
+                    (_, "taken") => "taken",
+                    (_, "slip") => "slip",
+                    ("-", _) => "ignored hunting",
+                    _ => "ignored",
+                });
+                match mark {
+                    "-" => {}
+                    "untimed" => saw("untimed"),
+                    "late" => saw("late"),
+                    _ => saw("emission"),
+                }
+            }
+            _ => {}
+        }
+    }
+}
+
+fn delivery(r: &mut Random, length: usize) -> Delivery {
+    match r.below(6) {
+        0 if length < 8_000 => Delivery::Pieces(1),
+        0 | 1 => Delivery::Pieces(191),
+        2 => Delivery::Pieces(192),
+        3 => Delivery::Random(5_000),
+        _ => Delivery::Pieces(1 << 20),
+    }
+}
+
+fn compare(program: &str, from: u64, count: u64) -> bool {
+    let mut r = Random(from.wrapping_mul(2).wrapping_add(1));
+    let mut seen: BTreeMap<&str, u64> = KINDS.iter().map(|k| (*k, 0)).collect();
+    let mut bytes = 0;
+    for number in 0..count {
+        let capture = capture(&mut r);
+        let how = delivery(&mut r, capture.len());
+        let (ours, other) = (run(program, &capture, how, &mut r), log::log(&capture));
+        if ours != other {
+            let file = "target/tests/compare_log.bin";
+            std::fs::write(file, &capture).expect("the capture is kept");
+            let at = ours.iter().zip(&other).take_while(|(a, b)| a == b).count();
+            let line = other[..at].iter().filter(|b| **b == b'\n').count();
+            let show = |text: &[u8]| String::from_utf8_lossy(text).lines().nth(line).unwrap_or("").to_string();
+            println!(
+                "compare_log: seed {from}, capture {number} ({file}), {how:?}: line {line} is {:?}, the other has {:?}",
+                show(&ours),
+                show(&other)
+            );
+            return false;
+        }
+        kinds(&ours, |k| *seen.get_mut(k).unwrap() += 1);
+        bytes += capture.len();
+    }
+    for (kind, times) in &seen {
+        println!("{kind}: {times}");
+    }
+    let missing: Vec<_> = seen.iter().filter(|(_, times)| **times == 0).map(|(k, _)| *k).collect();
+    if !missing.is_empty() && count >= COUNT {
+        println!("compare_log: never printed: {}", missing.join(", "));
+        return false;
+    }
+    println!("compare_log: {count} captures, {bytes} bytes, the same output (seed {from})");
+    true
+}
+
+/// The program's output is taken once; each fault must make the other's differ somewhere.
+fn find_faults(program: &str, from: u64, count: u64) -> bool {
+    let mut r = Random(from.wrapping_mul(2).wrapping_add(1));
+    let printed: Vec<_> = (0..count)
+        .map(|_| {
+            let capture = capture(&mut r);
+            let ours = run(program, &capture, Delivery::Pieces(1 << 20), &mut r);
+            (capture, ours)
+        })
+        .collect();
+    let differs = || printed.iter().any(|(capture, ours)| log::log(capture) != *ours);
+    if differs() {
+        println!("compare_log: a difference without a fault");
+        return false;
+    }
+    let mut missed = 0;
+    for (fault, what) in FAULTS {
+        seed(Some(*fault));
+        if !differs() {
+            println!("compare_log: not found: {what}");
+            missed += 1;
+        }
+        seed(None);
+    }
+    println!("compare_log: {} of {} faults found", FAULTS.len() - missed, FAULTS.len());
+    missed == 0
+}
