@@ -121,7 +121,7 @@ fn put_counted(out: &mut [u8], at: usize, c: Counted) -> usize
 }
 
 // A refusal, with its number.
-pub fn put_refusal(out: &mut [u8], at: usize, k: u8) -> usize
+pub(crate) fn put_refusal(out: &mut [u8], at: usize, k: u8) -> usize
     requires { ⌜ at + 64 ≤ length (now out) ⌝ }
     ensures { λ r. ⌜ Puts 64 (now (out .entry)) at (refusalText k) (now (out .exit)) r ⌝ }
 {
@@ -131,7 +131,7 @@ pub fn put_refusal(out: &mut [u8], at: usize, k: u8) -> usize
 }
 
 // The line of a record that was answered.
-pub fn put_line(out: &mut [u8], at: usize, number: u64, answer: Answer) -> usize
+pub(crate) fn put_line(out: &mut [u8], at: usize, number: u64, answer: Answer) -> usize
     requires { ⌜ at + 128 ≤ length (now out) ⌝ }
     ensures { λ r. ⌜ Puts 128 (now (out .entry)) at (lineOf number (answerOf answer)) (now (out .exit)) r ⌝ }
 {
@@ -144,7 +144,7 @@ pub fn put_line(out: &mut [u8], at: usize, number: u64, answer: Answer) -> usize
 }
 
 // The site line.
-pub fn put_site(out: &mut [u8], at: usize, site: u16, n: u16) -> usize
+pub(crate) fn put_site(out: &mut [u8], at: usize, site: u16, n: u16) -> usize
     requires { ⌜ at + 96 ≤ length (now out) ⌝ }
     ensures { λ r. ⌜ Puts 96 (now (out .entry)) at (siteLine site n) (now (out .exit)) r ⌝ }
 {
@@ -156,7 +156,7 @@ pub fn put_site(out: &mut [u8], at: usize, site: u16, n: u16) -> usize
 }
 
 // The end line.
-pub fn put_end(out: &mut [u8], at: usize, count: u64) -> usize
+pub(crate) fn put_end(out: &mut [u8], at: usize, count: u64) -> usize
     requires { ⌜ at + 64 ≤ length (now out) ⌝ }
     ensures { λ r. ⌜ Puts 64 (now (out .entry)) at (endLine count) (now (out .exit)) r ⌝ }
 {
