@@ -7,6 +7,26 @@ macro_rules! faults {
         pub enum Fault { $($name),* }
         /// Every fault, with what it does wrong.
         pub const FAULTS: &[(Fault, &str)] = &[$((Fault::$name, $what)),*];
+
+        #[cfg(faults)]
+        static SEEDED: std::sync::atomic::AtomicUsize = std::sync::atomic::AtomicUsize::new(usize::MAX);
+
+        /// Seeds one fault, or none.
+        #[cfg(faults)]
+        pub fn seed(fault: Option<Fault>) {
+            SEEDED.store(fault.map_or(usize::MAX, |f| f as usize), std::sync::atomic::Ordering::Relaxed);
+        }
+
+        /// The papers' rule, or the wrong one while the fault is seeded.
+        #[inline(always)]
+        pub fn rule<T>(right: T, fault: Fault, wrong: T) -> T {
+            #[cfg(faults)]
+            if SEEDED.load(std::sync::atomic::Ordering::Relaxed) == fault as usize {
+                return wrong;
+            }
+            let _ = (fault, wrong);
+            right
+        }
     };
 }
 
@@ -39,35 +59,3 @@ faults! {
     PointerOfN: "a pointer of n or more is taken for label 0",
     PlaceOffByOne: "the M/H place counts from 36",
 }
-
-#[cfg(faults)]
-mod seeded {
-    use std::sync::atomic::{AtomicUsize, Ordering::Relaxed};
-
-    static SEEDED: AtomicUsize = AtomicUsize::new(usize::MAX);
-
-    /// Seeds one fault, or none.
-    pub fn seed(fault: Option<super::Fault>) {
-        SEEDED.store(fault.map_or(usize::MAX, |f| f as usize), Relaxed);
-    }
-
-    /// The papers' rule, or the wrong one while the fault is seeded.
-    #[inline]
-    pub fn rule<T>(right: T, fault: super::Fault, wrong: T) -> T {
-        if SEEDED.load(Relaxed) == fault as usize {
-            wrong
-        } else {
-            right
-        }
-    }
-}
-
-#[cfg(not(faults))]
-mod seeded {
-    #[inline(always)]
-    pub fn rule<T>(right: T, _: super::Fault, _: T) -> T {
-        right
-    }
-}
-
-pub use seeded::*;

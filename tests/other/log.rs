@@ -32,26 +32,6 @@ pub mod faults {
         LeadingZero: "numbers below ten have a zero in front",
         NoLastLineFeed: "the end line has no line feed",
     }
-
-    #[cfg(faults)]
-    static SEEDED: std::sync::atomic::AtomicUsize = std::sync::atomic::AtomicUsize::new(usize::MAX);
-
-    /// Seeds one fault, or none.
-    #[cfg(faults)]
-    pub fn seed(fault: Option<Fault>) {
-        SEEDED.store(fault.map_or(usize::MAX, |f| f as usize), std::sync::atomic::Ordering::Relaxed);
-    }
-
-    /// The papers' rule, or the wrong one while the fault is seeded.
-    #[inline(always)]
-    pub fn rule<T>(right: T, fault: Fault, wrong: T) -> T {
-        #[cfg(faults)]
-        if SEEDED.load(std::sync::atomic::Ordering::Relaxed) == fault as usize {
-            return wrong;
-        }
-        let _ = (fault, wrong);
-        right
-    }
 }
 
 /// A capture's settings: profile (1), n (2), site (2), TAD (4).

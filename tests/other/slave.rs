@@ -57,26 +57,6 @@ pub mod faults {
         GapRaisesOnce: "a gap raises the index once, however many marks it passes",
         GapOfZeroUnjudged: "a gap of 0 is not judged by 15",
     }
-
-    #[cfg(faults)]
-    static SEEDED: std::sync::atomic::AtomicUsize = std::sync::atomic::AtomicUsize::new(usize::MAX);
-
-    /// Seeds one fault, or none.
-    #[cfg(faults)]
-    pub fn seed(fault: Option<Fault>) {
-        SEEDED.store(fault.map_or(usize::MAX, |f| f as usize), std::sync::atomic::Ordering::Relaxed);
-    }
-
-    /// The papers' rule, or the wrong one while the fault is seeded.
-    #[inline(always)]
-    pub fn rule<T>(right: T, fault: Fault, wrong: T) -> T {
-        #[cfg(faults)]
-        if SEEDED.load(std::sync::atomic::Ordering::Relaxed) == fault as usize {
-            return wrong;
-        }
-        let _ = (fault, wrong);
-        right
-    }
 }
 
 // ---- The slave (01, "Steps of a slave", "Saved block")
