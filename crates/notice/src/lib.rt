@@ -10,6 +10,7 @@ ghost use Rattle.notice.specs.Writer.{writeRefusal, flagsOf, headOf, fie
 ghost use Rattle.notice.specs.Long.{Long, Framed, Writable};
 
 // What a notice says beside its addressing field.
+#[repr(C)]
 pub struct Notice {
     pub continuity: u8,
     pub pointer: u16,

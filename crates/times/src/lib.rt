@@ -10,12 +10,15 @@ ghost use Rattle.times.specs.Release.{wrap, reference, emission, modulat
 ghost use Rattle.times.specs.Answer.{plainReply, dvbReply, a110Reply};
 
 // A time or a delay of profile 0, in steps of 100 ns.
+#[repr(C)]
 pub struct Steps(pub u32);
 
 // A time or a delay of profile 1, in transport stream bit periods.
+#[repr(C)]
 pub struct Periods(pub u32);
 
 // What a mark of profile 0 is released with. The wait is in steps too.
+#[repr(C)]
 pub struct DvbTimes {
     pub reference: Steps,
     pub emission: Steps,
@@ -31,6 +34,7 @@ pub enum DvbRelease {
 }
 
 // What a mark of profile 1 is released with. The wait is in periods too.
+#[repr(C)]
 pub struct A110Times {
     pub reference: Periods,
     pub emission: Periods,

@@ -1,0 +1,22 @@
+-- `vikombare::vikombare_save` meets its contract.
+-- Assumes nothing.
+use borrow.Author.Needs.{needs}
+use mathlib.Core.Path.{ap, _∙_}
+use Rattle.wire.specs.Reply.{numberOf}
+use Rattle.vikombare.proofs.vikombare_save.Statement.{statement}
+use Rattle.vikombare.proofs.vikombare_save.Tie as tie
+
+save-requires : tie.Need-save-requires
+save-requires c κs = search needs
+
+outcome-number-requires : tie.Need-outcome-number-requires
+outcome-number-requires c κs = search needs
+
+same-length : tie.Need-same-length
+same-length c = search needs
+
+returns : tie.Need-returns
+returns c = (c .outcome-number .ensures ∙ ap numberOf (c .before .before .before .save .ensures .0), c .before .before .before .save .ensures .1)
+
+pub vikombare-save-spec : {M : Type 1} → statement M
+vikombare-save-spec = tie.close (tie.spec save-requires outcome-number-requires same-length returns)

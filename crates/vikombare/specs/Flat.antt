@@ -1,0 +1,105 @@
+-- The replies of the C calls as plain numbers, all 0 where there is nothing to say, and the tick that says its clock.
+-- Assumes nothing.
+use Prim.Native.Nat.{ℕ, zero, suc}
+use mathlib.Core.Bool.{Bool, true, false, cond}
+use lib.IntN.{pos}
+use lib.Dec.{eqb}
+use Rattle.wire.specs.Reply.{Reply, refused, given, numberOf}
+use Rattle.times.specs.Release.{Times}
+use Rattle.times.specs.declared.DvbTimes.{DvbTimes}
+use Rattle.times.specs.declared.A110Times.{A110Times}
+use Rattle.notice.specs.declared.Notice as Mip
+use Rattle.slave.specs.Answer.{Option, none, some, Notice, absent, taken, slip, ignored, Mark, unmarked, untimed, late, released, Count, Moved}
+use Rattle.vikombare.specs.declared.Tick.{Tick}
+use Rattle.vikombare.specs.declared.Change.{Change}
+use Rattle.vikombare.specs.declared.NoticeRead.{NoticeRead}
+use Rattle.vikombare.specs.declared.reply.Mark as CMark
+use Rattle.vikombare.specs.declared.reply.PacketReply.{PacketReply}
+
+-- No tick: more than the units of any second.
+abbrev pub noTick : ℕ
+noTick = 4294967295
+
+-- A tick is one of the slave's own clock, or none: a count of 100 ns steps and a count of bit periods are never taken one for the other.
+abbrev pub tickOn : ℕ → Tick → ℕ
+tickOn profile t = cond (eqb profile (t .profile)) (t .count) noTick
+
+abbrev pub isSome : Option → Bool
+isSome none = false
+isSome (some x) = true
+
+abbrev pub valueOf : Option → ℕ
+valueOf none = 0
+valueOf (some x) = x
+
+abbrev pub noticeKind : Notice → ℕ
+noticeKind absent = 0
+noticeKind taken = 1
+noticeKind slip = 2
+noticeKind (ignored k) = 3
+
+abbrev pub noticeNumber : Notice → ℕ
+noticeNumber absent = 0
+noticeNumber taken = 0
+noticeNumber slip = 0
+noticeNumber (ignored k) = k
+
+abbrev pub noSteps : DvbTimes
+noSteps = record { reference = record { 0 = 0 }; emission = record { 0 = 0 }; modulation = record { 0 = 0 }; wait = pos 0 }
+
+abbrev pub noPeriods : A110Times
+noPeriods = record { reference = record { 0 = 0 }; emission = record { 0 = 0 }; modulation = record { 0 = 0 }; wait = pos 0 }
+
+abbrev pub withoutTimes : ℕ → CMark.Mark
+withoutTimes k = record { kind = k; dvb = noSteps; a110 = noPeriods }
+
+-- A released mark's times stand in the unit of its profile.
+abbrev pub flatMark : Mark → CMark.Mark
+flatMark unmarked = withoutTimes 0
+flatMark untimed = withoutTimes 1
+flatMark late = withoutTimes 2
+flatMark (released zero t) =
+    record {
+      kind = 3;
+      dvb = record { reference = record { 0 = t .reference }; emission = record { 0 = t .emission }; modulation = record { 0 = t .modulation }; wait = t .wait };
+      a110 = noPeriods;
+    }
+flatMark (released (suc k) t) =
+    record {
+      kind = 4;
+      dvb = noSteps;
+      a110 = record { reference = record { 0 = t .reference }; emission = record { 0 = t .emission }; modulation = record { 0 = t .modulation }; wait = t .wait };
+    }
+
+abbrev pub flatCount : Count → PacketReply
+flatCount c =
+    record {
+      number = 0;
+      «has_label» = isSome (c .label);
+      label = valueOf (c .label);
+      notice = noticeKind (c .notice);
+      ignored = noticeNumber (c .notice);
+      turn = c .turn;
+      «has_place» = isSome (c .place);
+      place = valueOf (c .place);
+      mark = flatMark (c .mark);
+    }
+
+abbrev pub flatReply : Reply Count → PacketReply
+flatReply (refused k) =
+    record { number = k; «has_label» = false; label = 0; notice = 0; ignored = 0; turn = false; «has_place» = false; place = 0; mark = withoutTimes 0 }
+flatReply (given c) = flatCount c
+
+-- What a start, a gap or a resume leaves, with the number of its reply.
+abbrev pub flatChange : Moved → Change
+flatChange m = record { slave = m .slave; number = numberOf (m .reply) }
+
+-- A notice that was read, with the length of its addressing field.
+abbrev pub flatNotice : Reply Mip.Notice → ℕ → NoticeRead
+flatNotice (refused k) a =
+    record {
+      number = k;
+      notice = record { continuity = 0; pointer = 0; periodic = false; reserved = 0; sts = record { 0 = 0 }; md = record { 0 = 0 }; tps = 0 };
+      addressing = 0;
+    }
+flatNotice (given n) a = record { number = 0; notice = n; addressing = a }

@@ -1,0 +1,2 @@
+-- The definitions of crate `vikombare`, in reading order.
+pub mod Flat

@@ -1,0 +1,179 @@
+// The replies of the calls as plain numbers, for C: what a reply has not is 0 or false.
+use slave::Answer;
+use slave::Counted;
+use slave::MarkPart;
+use slave::Maybe;
+use slave::NoticePart;
+use slave::Outcome;
+use times::A110Times;
+use times::DvbTimes;
+use times::Periods;
+use times::Steps;
+ghost use mathlib.Core.Path.{_≡_};
+ghost use Rattle.wire.specs.Reply.{numberOf};
+ghost use Rattle.slave.specs.Answer.{optionOf, noticeOf, markOf, countOf, answerOf, outcomeOf};
+ghost use Rattle.vikombare.specs.Flat.{isSome, valueOf, noticeKind, noticeNumber, noSteps, noPeriods, withoutTimes, flatMark, flatCount, flatReply};
+
+// A mark: 0 none, 1 untimed, 2 late (14), 3 released in profile 0 with its times in steps of 100 ns, 4 released in profile 1 with its times in bit periods.
+#[repr(C)]
+pub struct Mark {
+    pub kind: u8,
+    pub dvb: DvbTimes,
+    pub a110: A110Times,
+}
+
+// The reply to a packet or a numbers notice. The number refuses the whole call, or is 0. The notice's part: 0 none, 1 taken, 2 slip, 3 ignored with its number.
+#[repr(C)]
+pub struct PacketReply {
+    pub number: u8,
+    pub has_label: bool,
+    pub label: u16,
+    pub notice: u8,
+    pub ignored: u8,
+    pub turn: bool,
+    pub has_place: bool,
+    pub place: u16,
+    pub mark: Mark,
+}
+
+fn is_just(m: Maybe) -> bool
+    ensures { λ r. ⌜ r ≡ isSome (optionOf m) ⌝ }
+{
+    match m {
+        Maybe::Nothing => false,
+        Maybe::Just(_) => true,
+    }
+}
+
+fn value_of(m: Maybe) -> u16
+    ensures { λ r. ⌜ r ≡ valueOf (optionOf m) ⌝ }
+{
+    match m {
+        Maybe::Nothing => 0,
+        Maybe::Just(x) => x,
+    }
+}
+
+fn notice_kind(n: NoticePart) -> u8
+    ensures { λ r. ⌜ r ≡ noticeKind (noticeOf n) ⌝ }
+{
+    match n {
+        NoticePart::Absent => 0,
+        NoticePart::Taken => 1,
+        NoticePart::Slip => 2,
+        NoticePart::Ignored(_) => 3,
+    }
+}
+
+fn notice_number(n: NoticePart) -> u8
+    ensures { λ r. ⌜ r ≡ noticeNumber (noticeOf n) ⌝ }
+{
+    match n {
+        NoticePart::Absent => 0,
+        NoticePart::Taken => 0,
+        NoticePart::Slip => 0,
+        NoticePart::Ignored(k) => k,
+    }
+}
+
+fn no_periods() -> A110Times
+    ensures { λ r. ⌜ r ≡ noPeriods ⌝ }
+{
+    A110Times {
+        reference: Periods(0),
+        emission: Periods(0),
+        modulation: Periods(0),
+        wait: 0,
+    }
+}
+
+fn no_steps() -> DvbTimes
+    ensures { λ r. ⌜ r ≡ noSteps ⌝ }
+{
+    DvbTimes {
+        reference: Steps(0),
+        emission: Steps(0),
+        modulation: Steps(0),
+        wait: 0,
+    }
+}
+
+fn no_times(kind: u8) -> Mark
+    ensures { λ r. ⌜ r ≡ withoutTimes kind ⌝ }
+{
+    Mark {
+        kind: kind,
+        dvb: no_steps(),
+        a110: no_periods(),
+    }
+}
+
+fn mark_of(m: MarkPart) -> Mark
+    ensures { λ r. ⌜ r ≡ flatMark (markOf m) ⌝ }
+{
+    match m {
+        MarkPart::Unmarked => no_times(0),
+        MarkPart::Untimed => no_times(1),
+        MarkPart::Late => no_times(2),
+        MarkPart::Dvb(t) => Mark {
+            kind: 3,
+            dvb: t,
+            a110: no_periods(),
+        },
+        MarkPart::A110(t) => Mark {
+            kind: 4,
+            dvb: no_steps(),
+            a110: t,
+        },
+    }
+}
+
+fn count_of(c: Counted) -> PacketReply
+    ensures { λ r. ⌜ r ≡ flatCount (countOf c) ⌝ }
+{
+    let label = c.label;
+    let notice = c.notice;
+    let mark = c.mark;
+    let place = c.place;
+    PacketReply {
+        number: 0,
+        has_label: is_just(label),
+        label: value_of(label),
+        notice: notice_kind(notice),
+        ignored: notice_number(notice),
+        turn: c.turn,
+        has_place: is_just(place),
+        place: value_of(place),
+        mark: mark_of(mark),
+    }
+}
+
+// A slave's answer as plain numbers.
+pub fn reply_of(a: Answer) -> PacketReply
+    ensures { λ r. ⌜ r ≡ flatReply (answerOf a) ⌝ }
+{
+    match a {
+        Answer::Counted(c) => count_of(c),
+        Answer::Refused(k) => PacketReply {
+            number: k,
+            has_label: false,
+            label: 0,
+            notice: 0,
+            ignored: 0,
+            turn: false,
+            has_place: false,
+            place: 0,
+            mark: no_times(0),
+        },
+    }
+}
+
+// The number of an outcome, 0 where nothing refuses.
+pub(crate) fn outcome_number(o: Outcome) -> u8
+    ensures { λ r. ⌜ r ≡ numberOf (outcomeOf o) ⌝ }
+{
+    match o {
+        Outcome::Done => 0,
+        Outcome::Refused(k) => k,
+    }
+}
