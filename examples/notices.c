@@ -1,22 +1,7 @@
-/* Reads transport packets from standard input and prints what the proved reader says of each: one line a packet. */
-#include <stdbool.h>
-#include <stddef.h>
-#include <stdint.h>
+/* Reads transport packets from standard input and prints what the reader says of each: one line a packet. */
 #include <stdio.h>
 
-struct reading {
-    uint8_t number;
-    uint8_t continuity;
-    uint16_t pointer;
-    bool periodic;
-    uint16_t reserved;
-    uint32_t sts;
-    uint32_t md;
-    uint32_t tps;
-    size_t addressing;
-};
-
-struct reading probe_read(const uint8_t *packet, size_t length);
+#include "vikombare.h"
 
 int main(void)
 {
@@ -25,12 +10,12 @@ int main(void)
     unsigned long count = 0;
 
     while ((got = fread(packet, 1, sizeof packet, stdin)) > 0) {
-        struct reading r = probe_read(packet, got);
+        vikombare_reading r = vikombare_read(packet, got);
         if (r.number != 0)
-            printf("%lu refused %u\n", count, (unsigned)r.number);
+            printf("%lu refused %u\n", count, r.number);
         else
-            printf("%lu pointer %u sts %lu md %lu tps %08lx continuity %u addressing %zu\n", count, (unsigned)r.pointer,
-                   (unsigned long)r.sts, (unsigned long)r.md, (unsigned long)r.tps, (unsigned)r.continuity, r.addressing);
+            printf("%lu pointer %u sts %lu md %lu tps %08lx continuity %u addressing %zu\n", count, r.notice.pointer, (unsigned long)r.notice.sts.steps,
+                   (unsigned long)r.notice.md.steps, (unsigned long)r.notice.tps, r.notice.continuity, r.addressing);
         count++;
     }
     return 0;

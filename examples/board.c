@@ -1,0 +1,130 @@
+/* What a board's firmware does with the library, in small: starts a slave, feeds it a stream, saves it, resumes it, and prints what it says. */
+#include <stdio.h>
+#include <string.h>
+
+#include "vikombare.h"
+
+enum { PACKET = 188, BLOCK = 38, CADENCE = 2016, SITE = 7 };
+
+static const vikombare_steps TAD = {200};
+
+/* A null packet. */
+static void null_packet(uint8_t *packet)
+{
+    memset(packet, 0xFF, PACKET);
+    packet[0] = 0x47;
+    packet[1] = 0x1F;
+    packet[3] = 0x10;
+}
+
+/* Writes a notice; the addressing field may be empty. */
+static void notice_packet(uint8_t *packet, uint16_t pointer, uint32_t sts, uint32_t md, const uint8_t *addressing, size_t length)
+{
+    vikombare_notice notice = {.continuity = 0, .pointer = pointer, .periodic = true, .sts = {sts}, .md = {md}};
+    uint8_t number = vikombare_write(packet, PACKET, notice, addressing, length);
+    if (number != 0)
+        printf("write refused %u\n", number);
+}
+
+static void print_reply(vikombare_reply reply)
+{
+    if (reply.number != 0) {
+        printf("refused %u\n", reply.number);
+        return;
+    }
+    if (reply.has_label)
+        printf("label %u", reply.label);
+    else
+        printf("no label");
+    if (reply.has_place)
+        printf(", M/H place %u", reply.place);
+    if (reply.notice == VIKOMBARE_TAKEN)
+        printf(", notice taken");
+    if (reply.notice == VIKOMBARE_SLIP)
+        printf(", notice taken after a slip");
+    if (reply.notice == VIKOMBARE_IGNORED)
+        printf(", notice ignored %u", reply.ignored);
+    switch (reply.mark.kind) {
+    case VIKOMBARE_UNTIMED:
+        printf(", mark untimed");
+        break;
+    case VIKOMBARE_LATE:
+        printf(", mark late");
+        break;
+    case VIKOMBARE_DVB_RELEASED:
+        printf(", mark: emission %lu, modulation %lu, wait %lld steps", (unsigned long)reply.mark.dvb.emission.steps,
+               (unsigned long)reply.mark.dvb.modulation.steps, (long long)reply.mark.dvb.wait);
+        break;
+    case VIKOMBARE_A110_RELEASED:
+        printf(", mark: emission %lu, modulation %lu, wait %lld periods", (unsigned long)reply.mark.a110.emission.periods,
+               (unsigned long)reply.mark.a110.modulation.periods, (long long)reply.mark.a110.wait);
+        break;
+    }
+    printf("\n");
+}
+
+static void feed_dvb(vikombare_slave *slave, const uint8_t *packet, uint32_t tick)
+{
+    print_reply(vikombare_packet(slave, packet, PACKET, vikombare_dvb_tick((vikombare_steps){tick})));
+}
+
+static void print_change(const char *what, vikombare_change change)
+{
+    static const char *const phases[] = {"cold", "hunting", "locked"};
+    printf("%s: number %u, %s, next label %u\n", what, change.number, phases[change.slave.phase], change.slave.next);
+}
+
+static void dvb_board(void)
+{
+    /* An offset of 50 steps for site 7: identifier, loop length, then tag 0, its length 4, and the offset. */
+    static const uint8_t offset[] = {0x00, SITE, 4, 0, 4, 0, 50};
+    uint8_t packet[PACKET], null[PACKET], block[BLOCK];
+    null_packet(null);
+
+    vikombare_change change = vikombare_dvb_start(CADENCE, SITE, TAD);
+    print_change("start", change);
+    vikombare_slave slave = change.slave;
+
+    feed_dvb(&slave, null, 1000);
+    notice_packet(packet, 1, 9500000, 700000, offset, 0);
+    feed_dvb(&slave, packet, 9000000);
+    feed_dvb(&slave, null, 9450000);
+    feed_dvb(&slave, null, 9900000);
+
+    printf("save: number %u\n", vikombare_save(slave, block, sizeof block));
+    print_change("resume on another board", vikombare_dvb_resume(block, sizeof block, CADENCE, SITE + 1, TAD));
+    change = vikombare_dvb_resume(block, sizeof block, CADENCE, SITE, TAD);
+    print_change("resume", change);
+    slave = change.slave;
+
+    notice_packet(packet, 2014, 100000, 700000, offset, sizeof offset);
+    feed_dvb(&slave, packet, 9950000);
+    change = vikombare_gap(slave, 2014);
+    print_change("gap of 2014", change);
+    slave = change.slave;
+    feed_dvb(&slave, null, 500000);
+    packet[24] ^= 1;
+    feed_dvb(&slave, packet, 550000);
+    feed_dvb(&slave, null, 10000000);
+    print_reply(vikombare_packet(&slave, null, PACKET, vikombare_a110_tick((vikombare_periods){600000})));
+    feed_dvb(&slave, null, 600000);
+}
+
+static void a110_board(void)
+{
+    uint8_t null[PACKET];
+    null_packet(null);
+    vikombare_change change = vikombare_a110_start(624, SITE, (vikombare_periods){1000});
+    print_change("A/110 start", change);
+    vikombare_step step = vikombare_numbers(change.slave, null, PACKET, (vikombare_periods){19000000}, 0, (vikombare_periods){19392657},
+                                            (vikombare_periods){63740}, -32768, 0);
+    print_reply(step.reply);
+    print_reply(vikombare_packet(&step.slave, null, PACKET, vikombare_a110_tick((vikombare_periods){5})));
+}
+
+int main(void)
+{
+    dvb_board();
+    a110_board();
+    return 0;
+}
