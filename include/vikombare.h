@@ -118,8 +118,10 @@ enum {
 
 typedef struct {
     uint8_t kind;
-    vikombare_dvb_times dvb;   /* all 0 unless kind is VIKOMBARE_DVB_RELEASED */
-    vikombare_a110_times a110; /* all 0 unless kind is VIKOMBARE_A110_RELEASED */
+    union {
+        vikombare_dvb_times dvb;   /* where kind is VIKOMBARE_DVB_RELEASED */
+        vikombare_a110_times a110; /* where kind is VIKOMBARE_A110_RELEASED */
+    };                             /* all 0 for every other kind */
 } vikombare_mark;
 
 /* What became of a notice. */
