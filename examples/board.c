@@ -4,7 +4,7 @@
 
 #include "vikombare.h"
 
-enum { PACKET = 188, BLOCK = 38, CADENCE = 2016, SITE = 7 };
+enum { PACKET = VIKOMBARE_PACKET_BYTES, CADENCE = 2016, SITE = 7 };
 
 static const vikombare_steps TAD = {200};
 
@@ -78,7 +78,7 @@ static void dvb_board(void)
 {
     /* An offset of 50 steps for site 7: identifier, loop length, then tag 0, its length 4, and the offset. */
     static const uint8_t offset[] = {0x00, SITE, 4, 0, 4, 0, 50};
-    uint8_t packet[PACKET], null[PACKET], block[BLOCK];
+    uint8_t packet[PACKET], null[PACKET], block[VIKOMBARE_BLOCK_BYTES];
     null_packet(null);
 
     vikombare_change change = vikombare_dvb_start(CADENCE, SITE, TAD);

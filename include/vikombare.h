@@ -1,7 +1,8 @@
 /* vikombare.h - the timing slave of a transmitter in a single-frequency network.
  *
  * The slave reads the notices in a transport stream (profile 0: the Mega-frame Initialization Packet of DVB, ETSI TS 101 191; profile 1: ATSC A/110,
- * whose notices come as plain numbers), counts packets, and says when each mark goes on air. Link with libvikombare.a; nothing else is needed.
+ * whose notices come as plain numbers), counts packets, and says when each mark goes on air. Link with libvikombare.a, which asks for memset and nothing
+ * else of the C library.
  *
  * Every call is proved to do what is said here, for every value of its arguments: there is no input for which it is undefined, it never reads or writes
  * outside what it was lent, and it always returns. Two things are up to the caller, as with any C function: a pointer must lead to as many bytes as the
@@ -36,9 +37,15 @@
 extern "C" {
 #endif
 
-/* The profiles, and their clocks. */
-#define VIKOMBARE_DVB 0  /* counts steps of 100 ns: 10,000,000 in a second */
-#define VIKOMBARE_A110 1 /* counts bit periods of the transport stream: 19,392,658 in a second */
+/* The profiles, and what their clocks count in a second. */
+#define VIKOMBARE_DVB 0
+#define VIKOMBARE_DVB_SECOND 10000000 /* steps of 100 ns */
+#define VIKOMBARE_A110 1
+#define VIKOMBARE_A110_SECOND 19392658 /* bit periods of the transport stream */
+
+#define VIKOMBARE_PACKET_BYTES 188
+#define VIKOMBARE_BLOCK_BYTES 38      /* of a saved block */
+#define VIKOMBARE_INDEX_UNKNOWN 255
 
 /* A time after the one-second pulse, or a delay. The two units are two types, so that one is not taken for the other. */
 typedef struct {
@@ -118,8 +125,10 @@ enum {
 
 typedef struct {
     uint8_t kind;
-    vikombare_dvb_times dvb;   /* all 0 unless kind is VIKOMBARE_DVB_RELEASED */
-    vikombare_a110_times a110; /* all 0 unless kind is VIKOMBARE_A110_RELEASED */
+    union {
+        vikombare_dvb_times dvb;   /* where kind is VIKOMBARE_DVB_RELEASED */
+        vikombare_a110_times a110; /* where kind is VIKOMBARE_A110_RELEASED */
+    };                             /* all 0 for every other kind */
 } vikombare_mark;
 
 /* What became of a notice. */

@@ -15,7 +15,7 @@ use Rattle.wire.specs.Reply.{Reply, refused}
 use Rattle.wire.specs.BigEndian.{be32, be16At, be32At}
 use Rattle.slave.specs.Answer.{Result}
 use Rattle.cadence.specs.Cadence.{admits}
-use Rattle.slave.specs.Sound.{settingsKept}
+use Rattle.limits.specs.Limits.{settingsKept}
 use Rattle.slave.specs.Calls.{startOf, packetOf}
 use Rattle.slave.specs.declared.Slave.{Slave}
 use Rattle.lines.specs.Line.{lineOf, endLine}

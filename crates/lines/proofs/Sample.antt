@@ -6,8 +6,9 @@ use Prim.Native.Nat.{ℕ}
 use lib.ListN.{replicate}
 use Rattle.wire.specs.Standards.{syncByte}
 use Rattle.cadence.specs.Cadence.{atSomeRate, isMegaFrame, admits}
-use Rattle.slave.specs.Sound.{second, settingsKept, isZero, huntingFits, partsFit, sound}
-use Rattle.slave.specs.Judge.{arrivalRefusal, judgePacket}
+use Rattle.limits.specs.Limits.{second, settingsKept, isZero, huntingFits, partsFit}
+use Rattle.slave.specs.Sound.{sound}
+use Rattle.judging.specs.Judge.{arrivalRefusal, judgePacket}
 use Rattle.slave.specs.Step.{unheard, counted, stepOf}
 use Rattle.slave.specs.Calls.{startOf, packetOf}
 use Rattle.lines.specs.Decimal.{decimalIn, decimal}

@@ -10,7 +10,7 @@ use lib.Dec.{eqb, leb, ltb}
 use borrow.Author.Tests.{ltb-true, eqb-true, eqb-false, eq-eqb, ne-eqb}
 use Rattle.times.specs.Whole.{residue}
 use Rattle.times.proofs.Whole.{Diff, natural, difference, residue-is, residue-only}
-use Rattle.slave.specs.Sound.{isZero}
+use Rattle.limits.specs.Limits.{isZero}
 use Rattle.run.proofs.Tests.{both}
 
 -- a whole number that is 0 is the difference of equals

@@ -16,7 +16,7 @@ use Rattle.wire.specs.Signed.{signed24}
 use Rattle.addressing.specs.declared.Settings.{Settings}
 use Rattle.addressing.specs.Functions.{lengthFits, setBy, formed, functionsIn, functionsOf}
 use Rattle.addressing.specs.Entries.{applies, andThen, entriesIn, settingsOf}
-use Rattle.slave.specs.Sound.{frequencyFits}
+use Rattle.limits.specs.Limits.{frequencyFits}
 use Rattle.run.proofs.Tests.{join, pick, pair}
 
 -- two replies with the same number, or with related settings

@@ -17,15 +17,16 @@ use Rattle.check_value.specs.Register.{bitIn, bitsIn, registerFrom, register}
 use Rattle.addressing.specs.Functions.{lengthFits, setBy, functionsIn, functionsOf}
 use Rattle.addressing.specs.Entries.{applies, entriesIn, settingsOf, wellFormed}
 use Rattle.notice.specs.Reader.{packetRefusal, headRefusal, bodyRefusal, readRefusal, readOf, addressingPart}
-use Rattle.slave.specs.Sound.{second, delayKept, settingsKept, isZero, frequencyFits, indexFits, pendingFits, huntingFits, lockedFits, partsFit, sound}
+use Rattle.limits.specs.Limits.{second, delayKept, settingsKept, isZero, frequencyFits, indexFits, pendingFits, huntingFits, lockedFits, partsFit}
+use Rattle.slave.specs.Sound.{sound}
 use Rattle.slave.specs.Answer as Answer
 use Rattle.slave.specs.Answer.{Option, none, some, Notice, absent, slip, Mark, unmarked, untimed, released, Count}
-use Rattle.slave.specs.Judge.{arrivalRefusal, takenRefusal, judgePacket, numbersRefusal, judgeNumbers}
+use Rattle.judging.specs.Judge.{arrivalRefusal, takenRefusal, judgePacket, numbersRefusal, judgeNumbers}
 use Rattle.slave.specs.Step.{releaseAt, markAt, passed, unheard, counted, markTaken, noticeTaken, took, stepOf}
 use Rattle.slave.specs.Gap.{gapped}
 use Rattle.slave.specs.Calls.{startOf, packetOf, numbersOf, gapOf}
 use Rattle.slave.specs.declared.Slave.{Slave}
-use Rattle.slave.specs.declared.Board.{Board}
+use Rattle.judging.specs.declared.Board.{Board}
 use Rattle.run.specs.Adapter.{Adapter}
 use Rattle.run.specs.Book.{byValue, inPlace, packet, numbers, Call, at, gap, verdictOf, judged, verdict, Book, closed, untold, count, fall, enter, turn}
 use Rattle.run.specs.Run.{hear, leave, begun, places, Run}

@@ -17,15 +17,15 @@ use Rattle.times.specs.Release.{Times, reference, releaseOf, dvbRelease, a110Re
 use Rattle.times.proofs.Whole.{Diff, natural, sum, difference}
 use Rattle.times.proofs.Laws.{released-reference}
 use Rattle.cadence.specs.Label.{labelOf, labelAt, nextLabel}
-use Rattle.slave.specs.Sound.{second}
+use Rattle.limits.specs.Limits.{second}
 use Rattle.slave.specs.Answer as Answer
 use Rattle.slave.specs.Answer.{none, some, Notice, absent, slip, Mark, unmarked, untimed, released, Result}
 use Rattle.slave.specs.Step.{markFrom, releaseAt, markAt, passed, unheard, counted, agrees, markTaken, noticeTaken, took, stepOf}
 use Rattle.slave.specs.Gap.{toMark, gapped}
 use Rattle.slave.specs.declared.Slave.{Slave}
-use Rattle.slave.specs.declared.Taken.{Taken}
-use Rattle.slave.specs.declared.Judged.{Judged}
-use Rattle.slave.specs.declared.Judged.the-variants.{Refuse, Plain, Ignore, Take}
+use Rattle.judging.specs.declared.Taken.{Taken}
+use Rattle.judging.specs.declared.Judged.{Judged}
+use Rattle.judging.specs.declared.Judged.the-variants.{Refuse, Plain, Ignore, Take}
 use Rattle.run.specs.Adapter.{Written, Adapter, Wrote}
 use Rattle.run.specs.Book.{ignored, taken, verdictOf, Book, closed, opened, untold, count, fall, enter}
 use Rattle.run.specs.Run.{Genuine}

@@ -19,12 +19,12 @@ use Rattle.notice.specs.Mip.{errorIndicator, packetIdentifier, noticeOf}
 use Rattle.notice.specs.Reader.{readRefusal, readOf, addressingPart}
 use Rattle.notice.specs.declared.Notice.{Notice}
 use Rattle.notice.proofs.Sound.{accepted-sound}
-use Rattle.slave.specs.Sound.{second, delayKept, frequencyFits, indexFits}
-use Rattle.slave.specs.Judge.{unlessRefused, unlessIgnored, arrivalRefusal, takenRefusal, judgeMip, judgePacket, numbersRefusal, judgeNumbers}
-use Rattle.slave.specs.declared.Board.{Board}
-use Rattle.slave.specs.declared.Taken.{Taken}
-use Rattle.slave.specs.declared.Judged.{Judged}
-use Rattle.slave.specs.declared.Judged.the-variants.{Refuse, Plain, Ignore, Take}
+use Rattle.limits.specs.Limits.{second, delayKept, frequencyFits, indexFits}
+use Rattle.judging.specs.Judge.{unlessRefused, unlessIgnored, arrivalRefusal, takenRefusal, judgeMip, judgePacket, numbersRefusal, judgeNumbers}
+use Rattle.judging.specs.declared.Board.{Board}
+use Rattle.judging.specs.declared.Taken.{Taken}
+use Rattle.judging.specs.declared.Judged.{Judged}
+use Rattle.judging.specs.declared.Judged.the-variants.{Refuse, Plain, Ignore, Take}
 use Rattle.run.specs.Book.{Arrival, packet, numbers, taken, verdictOf, judged, verdict}
 use Rattle.run.proofs.Tests.{both, pair, no, must-be, must-not}
 use Rattle.run.proofs.Entries.{Both, settings-both, OneOd, od-kept, Fitting, frequency-kept}

@@ -8,12 +8,13 @@ use native.Mathlib.Omega.{arith}
 use Rattle.wire.specs.Reply.{Reply, given}
 use Rattle.times.specs.Release.{Times}
 use Rattle.cadence.specs.Cadence.{admits}
-use Rattle.slave.specs.Sound.{second, settingsKept, sound, hunting}
+use Rattle.limits.specs.Limits.{second, settingsKept}
+use Rattle.slave.specs.Sound.{sound, hunting}
 use Rattle.slave.specs.Answer.{Option, Notice, released, Count, Result, Moved}
 use Rattle.slave.specs.Gap.{gapped}
 use Rattle.slave.specs.Calls.{boardOf, inForce, startOf, packetOf, numbersOf, gapOf}
 use Rattle.slave.specs.declared.Slave.{Slave}
-use Rattle.slave.specs.declared.Board.{Board}
+use Rattle.judging.specs.declared.Board.{Board}
 use Rattle.slave.proofs.Parts.{hunting-sound}
 use Rattle.run.specs.Adapter.{Adapter}
 use Rattle.run.specs.Book.{Arrival, packet, numbers, Call, at, gap, Verdict, kept, plain, ignored, taken, judged, verdict, Book, closed, odOf, turns}

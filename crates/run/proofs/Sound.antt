@@ -12,15 +12,16 @@ use Rattle.times.specs.Release.{inSecond}
 use Rattle.cadence.specs.Cadence.{admits}
 use Rattle.cadence.specs.Label.{labelOf}
 use Rattle.cadence.proofs.Lengths.{admitted-range}
-use Rattle.slave.specs.Sound.{second, delayKept, settingsKept, isZero, frequencyFits, indexFits, pendingFits, huntingFits, lockedFits, partsFit, sound}
+use Rattle.limits.specs.Limits.{second, delayKept, settingsKept, isZero, frequencyFits, indexFits, pendingFits, huntingFits, lockedFits, partsFit}
+use Rattle.slave.specs.Sound.{sound}
 use Rattle.slave.specs.Answer.{Notice, Result}
 use Rattle.slave.specs.Step.{raised, indexAt, agrees, passed, unheard, counted, took, stepOf}
 use Rattle.slave.specs.Gap.{toMark, gapped}
 use Rattle.slave.specs.Calls.{boardOf}
 use Rattle.slave.specs.declared.Slave.{Slave}
-use Rattle.slave.specs.declared.Taken.{Taken}
-use Rattle.slave.specs.declared.Judged.{Judged}
-use Rattle.slave.specs.declared.Judged.the-variants.{Refuse, Plain, Ignore, Take}
+use Rattle.judging.specs.declared.Taken.{Taken}
+use Rattle.judging.specs.declared.Judged.{Judged}
+use Rattle.judging.specs.declared.Judged.the-variants.{Refuse, Plain, Ignore, Take}
 use Rattle.run.proofs.Tests.{both, join, either, pick, split, yes, no}
 use Rattle.run.proofs.Judging.{Fit}
 

@@ -6,16 +6,17 @@ use mathlib.Core.List.{List, [], _∷_, _++_}
 use Prim.Native.Nat.{ℕ, _<_}
 use lib.IntN.{ℤ, pos}
 use lib.Dec.{eqb}
-use Rattle.slave.specs.Sound.{second, hunting}
+use Rattle.limits.specs.Limits.{second}
+use Rattle.slave.specs.Sound.{hunting}
 use Rattle.slave.specs.Answer as Answer
 use Rattle.slave.specs.Answer.{Notice, absent, Result}
 use Rattle.slave.specs.Step.{counted, passed, unheard, took, stepOf}
 use Rattle.slave.specs.Gap.{gapped}
 use Rattle.slave.specs.Calls.{boardOf, inForce}
 use Rattle.slave.specs.declared.Slave.{Slave}
-use Rattle.slave.specs.declared.Board.{Board}
-use Rattle.slave.specs.declared.Judged.{Judged}
-use Rattle.slave.specs.declared.Judged.the-variants.{Refuse, Plain, Ignore, Take}
+use Rattle.judging.specs.declared.Board.{Board}
+use Rattle.judging.specs.declared.Judged.{Judged}
+use Rattle.judging.specs.declared.Judged.the-variants.{Refuse, Plain, Ignore, Take}
 use Rattle.run.specs.Adapter.{Adapter}
 use Rattle.run.specs.Book.{Arrival, packet, numbers, Call, at, gap, Verdict, verdictOf, judged, verdict, Book, closed, opened, odOf, count, fall, enter, turn, turns}
 use Rattle.run.specs.Run.{Genuine, AllGenuine}

@@ -5,11 +5,11 @@ use mathlib.Core.Bool.{Bool, true, _&&_}
 use mathlib.Core.List.{List, [], _∷_}
 use lib.IntN.{ℤ, pos, _+ℤ_, _-ℤ_}
 use Rattle.addressing.specs.declared.Settings.{Settings}
-use Rattle.slave.specs.Sound.{isZero}
-use Rattle.slave.specs.Judge.{judgePacket, judgeNumbers}
-use Rattle.slave.specs.declared.Board.{Board}
-use Rattle.slave.specs.declared.Judged.{Judged}
-use Rattle.slave.specs.declared.Judged.the-variants.{Refuse, Plain, Ignore, Take}
+use Rattle.limits.specs.Limits.{isZero}
+use Rattle.judging.specs.Judge.{judgePacket, judgeNumbers}
+use Rattle.judging.specs.declared.Board.{Board}
+use Rattle.judging.specs.declared.Judged.{Judged}
+use Rattle.judging.specs.declared.Judged.the-variants.{Refuse, Plain, Ignore, Take}
 
 -- ---- the calls
 

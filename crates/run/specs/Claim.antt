@@ -11,12 +11,13 @@ use Rattle.wire.specs.Reply.{Reply, refused, given}
 use Rattle.times.specs.Whole.{residue}
 use Rattle.times.specs.Release.{Times, reference}
 use Rattle.cadence.specs.Label.{labelAt}
-use Rattle.slave.specs.Sound.{second, sound, isZero}
+use Rattle.limits.specs.Limits.{second, isZero}
+use Rattle.slave.specs.Sound.{sound}
 use Rattle.slave.specs.Answer as Answer
 use Rattle.slave.specs.Answer.{Option, none, some, Notice, absent, slip, released, Count}
 use Rattle.slave.specs.Calls.{boardOf, gapOf}
 use Rattle.slave.specs.declared.Slave.{Slave}
-use Rattle.slave.specs.declared.Board.{Board}
+use Rattle.judging.specs.declared.Board.{Board}
 use Rattle.run.specs.Adapter.{Written, Adapter}
 use Rattle.run.specs.Book.{Arrival, Call, at, gap, Verdict, kept, plain, ignored, taken, verdict, Book, closed, opened, odOf, untold, turns}
 use Rattle.run.specs.Run.{hear, leaves, begun, Run}

@@ -4,11 +4,11 @@ use Prim.Native.Nat.{ℕ, suc, _≤_}
 use mathlib.Core.Path.{_≡_}
 use mathlib.Core.Bool.{true}
 use mathlib.Core.List.{List, [], _∷_}
-use Rattle.slave.specs.Sound.{settingsKept}
+use Rattle.limits.specs.Limits.{settingsKept}
 use Rattle.slave.specs.Answer.{Result}
 use Rattle.slave.specs.Calls.{startOf, packetOf, numbersOf, gapOf}
 use Rattle.slave.specs.declared.Slave.{Slave}
-use Rattle.slave.specs.declared.Board.{Board}
+use Rattle.judging.specs.declared.Board.{Board}
 use Rattle.run.specs.Adapter.{Adapter, Wrote}
 use Rattle.run.specs.Book.{Arrival, packet, numbers, Call, at, gap, Verdict, kept, plain, ignored, taken, verdict, Book, closed, odOf, turn}
 

@@ -16,7 +16,7 @@ use Rattle.wire.proofs.Tests.{passed, given-zero, kept-new}
 use Rattle.wire.proofs.Bytes.{Bytes, drop-bytes, elements, elements-are}
 use Rattle.check_value.specs.Register.{register, sealed}
 use Rattle.check_value.proofs.Laws.{zero-only}
-use Rattle.slave.specs.Sound.{settingsKept}
+use Rattle.limits.specs.Limits.{settingsKept}
 use Rattle.saved.specs.Layout.{bodyLength, bodyOf, slaveIn}
 use Rattle.saved.specs.Block.{trailerLength, blockLength, coveredOf, blockOf, trailer, distance, fromBody, held, blockFits, resumeRefusal, resumeOf}
 use Rattle.saved.proofs.Shape.{shape-room, body-length, body-room}

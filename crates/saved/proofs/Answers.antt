@@ -11,7 +11,8 @@ use Rattle.wire.specs.Reply.{refused, given, reply, keptBy}
 use Rattle.wire.specs.BigEndian.{bytes32}
 use Rattle.wire.proofs.Puts.{put-behind}
 use Rattle.check_value.specs.Register.{register, sealed}
-use Rattle.slave.specs.Sound.{settingsKept, sound, cold, hunting}
+use Rattle.limits.specs.Limits.{settingsKept}
+use Rattle.slave.specs.Sound.{sound, cold, hunting}
 use Rattle.slave.specs.Calls.{startOf}
 use Rattle.slave.specs.declared.Slave.{Slave}
 use Rattle.saved.specs.Layout.{bodyOf}

@@ -11,7 +11,8 @@ use Rattle.check_value.specs.Register.{bitIn, bitsIn, registerFrom, register}
 use Rattle.times.specs.Whole.{within}
 use Rattle.times.specs.Release.{delayFits}
 use Rattle.cadence.specs.Cadence.{atSomeRate, isMegaFrame, admits}
-use Rattle.slave.specs.Sound.{second, delayKept, settingsKept, frequencyFits, indexFits, pendingFits, lockedFits, partsFit, sound, hunting}
+use Rattle.limits.specs.Limits.{second, delayKept, settingsKept, frequencyFits, indexFits, pendingFits, lockedFits, partsFit}
+use Rattle.slave.specs.Sound.{sound, hunting}
 use Rattle.slave.specs.Calls.{startOf}
 use Rattle.slave.specs.declared.Slave.{Slave}
 use Rattle.saved.specs.Layout.{Part, Phase, Profile, Cadence, Site, Tad, Od, Frequency, Power, Next, Pending, Index, Sts, Md, fieldOf, bitsOf, bodyOf, slaveIn}

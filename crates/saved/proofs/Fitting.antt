@@ -8,7 +8,7 @@ use lib.Dec.{eqb}
 use borrow.Author.Tests.{eq-eqb, ne-eqb, eqb-true}
 use Rattle.check_value.specs.Register.{register}
 use Rattle.slave.specs.Sound.{sound}
-use Rattle.slave.proofs.Parts.{both}
+use Rattle.wire.proofs.Tests.{both}
 use Rattle.saved.specs.Block.{trailerSite, shaped, fromBody, held, blockFits}
 
 module _ (b : List ℕ) where

@@ -22,11 +22,13 @@ use Rattle.wire.proofs.Bytes.{Bytes, and-bytes, bytes-16, bytes-32}
 use Rattle.check_value.specs.Register.{register}
 use Rattle.check_value.proofs.Sealing.{sealed-length}
 use Rattle.check_value.proofs.Laws.{leaves-zero, flipped, misses-no-bit}
-use Rattle.slave.specs.Sound.{settingsKept, sound, hunting}
+use Rattle.limits.specs.Limits.{settingsKept}
+use Rattle.slave.specs.Sound.{sound, hunting}
 use Rattle.slave.specs.Answer.{Moved}
 use Rattle.slave.specs.Calls.{boardOf}
 use Rattle.slave.specs.declared.Slave.{Slave}
-use Rattle.slave.proofs.Parts.{both, settings-hold, hunting-sound}
+use Rattle.wire.proofs.Tests.{both}
+use Rattle.slave.proofs.Parts.{settings-hold, hunting-sound}
 use Rattle.saved.specs.Layout.{Site, bodyLength, bodyOf, slaveIn}
 use Rattle.saved.specs.Block.{trailerLength, blockLength, coveredOf, blockOf, saveRefusal, saveReply, saveOf, trailer, trailerSite, distance, shaped, fromBody, held, blockFits, sameBoard, resumeOf}
 use Rattle.saved.proofs.Shape.{shape-far, shape-room}

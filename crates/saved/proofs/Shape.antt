@@ -9,7 +9,7 @@ use lib.ListN.{length, take, drop, length-drop}
 use lib.Seq.{take-all}
 use lib.Dec.{leb}
 use borrow.Author.Tests.{leb-true, leb-false, le-leb, lt-leb}
-use Rattle.slave.proofs.Parts.{both}
+use Rattle.wire.proofs.Tests.{both}
 use Rattle.saved.specs.Layout.{bodyLength}
 use Rattle.saved.specs.Block.{trailerLength, blockLength, trailer, distance, shaped, fromBody}
 

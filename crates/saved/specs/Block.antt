@@ -9,7 +9,8 @@ use lib.Dec.{eqb, leb}
 use Rattle.wire.specs.Reply.{Reply, must, reply, keptBy}
 use Rattle.wire.specs.BigEndian.{be16At, bytes16}
 use Rattle.check_value.specs.Register.{register, sealed}
-use Rattle.slave.specs.Sound.{settingsKept, sound}
+use Rattle.limits.specs.Limits.{settingsKept}
+use Rattle.slave.specs.Sound.{sound}
 use Rattle.slave.specs.Answer.{Moved}
 use Rattle.slave.specs.Calls.{startOf}
 use Rattle.slave.specs.declared.Slave.{Slave}

@@ -197,7 +197,7 @@ fn same_board(s: Slave, profile: u8, n: u16, site: u16, tad: u32) -> bool
 pub fn resume(block: &[u8], profile: u8, n: u16, site: u16, tad: u32) -> Shifted
     ensures { λ r. ⌜ (r .slave ≡ resumeOf (now (block .entry)) profile n site tad .slave) × (outcomeOf (r .outcome) ≡ resumeOf (now (block .entry)) profile n site tad .reply) ⌝ }
 {
-    if !slave::soundness::settings_kept(profile, n, site, tad) {
+    if !limits::settings_kept(profile, n, site, tad) {
         return Shifted {
             slave: slave::cold_slave(),
             outcome: Outcome::Refused(15),

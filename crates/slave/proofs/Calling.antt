@@ -8,7 +8,7 @@ use lib.IntN.{ℤ}
 use Rattle.wire.specs.Reply.{refused}
 use Rattle.slave.specs.Sound.{sound, cold}
 use Rattle.slave.specs.Answer.{Result}
-use Rattle.slave.specs.Judge.{judgePacket, judgeNumbers}
+use Rattle.judging.specs.Judge.{judgePacket, judgeNumbers}
 use Rattle.slave.specs.Step.{stepOf}
 use Rattle.slave.specs.Calls.{boardOf, inForce, packetOf, numbersOf}
 use Rattle.slave.specs.declared.Slave.{Slave}

@@ -8,14 +8,11 @@ use lib.Dec.{eqb, ltb}
 use borrow.Author.Tests.{eqb-true, eqb-false, eq-eqb, ne-eqb, ltb-true}
 use Rattle.times.specs.Release.{inSecond}
 use Rattle.cadence.specs.Cadence.{admits}
+use Rattle.wire.proofs.Tests.{both}
 use Rattle.cadence.proofs.Lengths.{admitted-range}
-use Rattle.slave.specs.Sound.{second, isZero, frequencyFits, indexFits, settingsKept, huntingFits, lockedFits, partsFit, sound, hunting}
+use Rattle.limits.specs.Limits.{second, isZero, frequencyFits, indexFits, settingsKept, huntingFits, lockedFits, partsFit}
+use Rattle.slave.specs.Sound.{sound, hunting}
 use Rattle.slave.specs.declared.Slave.{Slave}
-
--- both sides of a conjunction
-pub both : (a b : Bool) → (a && b) ≡ true → (a ≡ true) × (b ≡ true)
-both true b e = (refl, e)
-both false b e = (e, cc)
 
 module _ (s : Slave) (k : sound s ≡ true) where
   pub settings-hold : settingsKept (s .profile) (s .n) (s .site) (s .tad) ≡ true

@@ -8,58 +8,21 @@ use lib.Dec.{eqb}
 use lib.IntN.{ℤ}
 use borrow.Author.Tests.{eqb-true, eqb-false, eq-eqb, ne-eqb, not-true, not-false}
 use Rattle.wire.specs.Reply.{Reply, refused}
-use Rattle.wire.specs.Standards.{mipPid}
-use Rattle.addressing.specs.declared.Settings.{Settings}
 use Rattle.cadence.specs.Label.{nextLabel}
-use Rattle.notice.specs.Mip.{errorIndicator, packetIdentifier}
-use Rattle.slave.specs.Sound.{settingsKept, partsFit, sound}
+use Rattle.limits.specs.Limits.{settingsKept, partsFit}
+use Rattle.slave.specs.Sound.{sound}
 use Rattle.slave.specs.Answer.{absent, unmarked, Count, Result}
-use Rattle.slave.specs.Judge.{arrivalRefusal, judgePacket}
 use Rattle.slave.specs.Step.{placeOf, indexAt, markAt, passed, unheard, stepOf}
 use Rattle.slave.specs.Calls.{boardOf, inForce, packetOf}
-use Rattle.slave.specs.Quick.{isPlain, onMark, labelLeft, plainReply, applies, quickNext, quickReply}
-use Rattle.slave.specs.declared.Board.{Board}
+use Rattle.judging.specs.Plain.{isPlain}
+use Rattle.slave.specs.Quick.{onMark, labelLeft, plainReply, applies, quickNext, quickReply}
 use Rattle.slave.specs.declared.Slave.{Slave}
-use Rattle.slave.specs.declared.Judged.{Judged}
-use Rattle.slave.specs.declared.Judged.the-variants.{Plain}
-use Rattle.slave.proofs.Parts.{both}
+use Rattle.judging.specs.declared.Judged.{Judged}
+use Rattle.judging.specs.declared.Judged.the-variants.{Plain}
+use Rattle.wire.proofs.Tests.{both}
 use Rattle.slave.proofs.Ways.{passed-on, passed-reply, counts, counts-not}
-use Rattle.slave.proofs.Judging.{packet-a110, packet-plain}
+use Rattle.judging.proofs.Plain.{judged-plain}
 use Rattle.slave.proofs.Calling.{packet-steps}
-
--- ---- the judgement
-
-module _ (b : Board) (p : List ℕ) (tick : ℕ) where
-  pub plain-refused : (arrivalRefusal b p tick ≡ 0 → ⊥) → isPlain b p tick ≡ false
-  unfolding isPlain
-  plain-refused h = rw (ne-eqb (arrivalRefusal b p tick) 0 h)
-
-  module _ (a : arrivalRefusal b p tick ≡ 0) where
-    pub plain-4 : (errorIndicator p ≡ 0 → ⊥) → isPlain b p tick ≡ false
-    unfolding isPlain
-    plain-4 e = rw (eq-eqb (arrivalRefusal b p tick) 0 a, ne-eqb (errorIndicator p) 0 e)
-
-    module _ (e : errorIndicator p ≡ 0) where
-      pub plain-a110 : (b .profile ≡ 0 → ⊥) → isPlain b p tick ≡ true
-      unfolding isPlain
-      plain-a110 f = rw (eq-eqb (arrivalRefusal b p tick) 0 a, eq-eqb (errorIndicator p) 0 e, ne-eqb (b .profile) 0 f)
-
-      pub plain-by-pid : b .profile ≡ 0 → isPlain b p tick ≡ not (eqb (packetIdentifier p) mipPid)
-      unfolding isPlain
-      plain-by-pid f = rw (eq-eqb (arrivalRefusal b p tick) 0 a, eq-eqb (errorIndicator p) 0 e, eq-eqb (b .profile) 0 f)
-
-  judged-plain : (t : Settings) → isPlain b p tick ≡ true → judgePacket b t p tick ≡ Plain
-  unfolding isPlain
-  judged-plain t k =
-      let h = both (eqb (arrivalRefusal b p tick) 0 && eqb (errorIndicator p) 0) _ k in
-      let g = both (eqb (arrivalRefusal b p tick) 0) _ (h .0) in
-      let a : arrivalRefusal b p tick ≡ 0 = eqb-true _ _ (g .0) in
-      let e : errorIndicator p ≡ 0 = eqb-true _ _ (g .1) in
-      go a e (eqb (b .profile) 0) refl (h .1)
-    where
-      go : arrivalRefusal b p tick ≡ 0 → errorIndicator p ≡ 0 → (z : Bool) → eqb (b .profile) 0 ≡ z → (not z || not (eqb (packetIdentifier p) mipPid)) ≡ true → judgePacket b t p tick ≡ Plain
-      go a e true q m = packet-plain b t p tick a e (eqb-true _ _ q) (eqb-false _ _ (not-true _ m))
-      go a e false q m = packet-a110 b t p tick a e (eqb-false _ _ q)
 
 -- ---- whether the short way applies
 

@@ -12,7 +12,7 @@ use Rattle.cadence.specs.Label.{labelOf, nextLabel}
 use Rattle.slave.specs.Answer.{Option, none, some, Notice, taken, slip, Mark, untimed, unmarked, Count, Result}
 use Rattle.slave.specs.Step.{placeOf, markAt, indexAt, keptAt, indexBefore, indexAfter, turns, noticeTaken, markTaken, passed, unheard, counted, entered, took}
 use Rattle.slave.specs.declared.Slave.{Slave}
-use Rattle.slave.specs.declared.Taken.{Taken}
+use Rattle.judging.specs.declared.Taken.{Taken}
 
 -- ---- a counted packet
 

@@ -6,13 +6,14 @@ use mathlib.Core.List.{List}
 use lib.IntN.{ℤ}
 use Rattle.wire.specs.Reply.{refused, given}
 use Rattle.addressing.specs.declared.Settings.{Settings}
-use Rattle.slave.specs.Sound.{settingsKept, sound, cold, hunting}
+use Rattle.limits.specs.Limits.{settingsKept}
+use Rattle.slave.specs.Sound.{sound, cold, hunting}
 use Rattle.slave.specs.Answer.{Result, Moved}
-use Rattle.slave.specs.Judge.{judgePacket, judgeNumbers}
+use Rattle.judging.specs.Judge.{judgePacket, judgeNumbers}
 use Rattle.slave.specs.Step.{stepOf}
 use Rattle.slave.specs.Gap.{gapped}
 use Rattle.slave.specs.declared.Slave.{Slave}
-use Rattle.slave.specs.declared.Board.{Board}
+use Rattle.judging.specs.declared.Board.{Board}
 
 -- a slave's start settings, and the settings in force
 abbrev pub boardOf : Slave → Board

@@ -1,8 +1,6 @@
 -- The definitions of crate `slave`, in reading order.
 pub mod Sound
 pub mod Answer
-pub mod Judge
-pub mod Pointed
 pub mod Step
 pub mod Gap
 pub mod Calls

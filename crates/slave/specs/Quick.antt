@@ -1,25 +1,17 @@
 -- The short way of a plain packet that is no mark, as nearly every packet is. The calls' contracts do not cite it: `packetOf` says the same of any packet.
 -- Assumes nothing.
 use Prim.Native.Nat.{ℕ}
-use mathlib.Core.Bool.{Bool, false, cond, not, _&&_, _||_}
+use mathlib.Core.Bool.{Bool, false, cond, not, _&&_}
 use mathlib.Core.List.{List}
 use lib.Dec.{eqb}
 use Rattle.wire.specs.Reply.{Reply, refused, given}
-use Rattle.wire.specs.Standards.{mipPid}
 use Rattle.cadence.specs.Label.{nextLabel}
-use Rattle.notice.specs.Mip.{errorIndicator, packetIdentifier}
 use Rattle.slave.specs.Sound.{sound}
 use Rattle.slave.specs.Answer.{none, some, absent, unmarked, Count}
-use Rattle.slave.specs.Judge.{arrivalRefusal}
+use Rattle.judging.specs.Plain.{isPlain}
 use Rattle.slave.specs.Step.{placeOf}
 use Rattle.slave.specs.Calls.{boardOf}
-use Rattle.slave.specs.declared.Board.{Board}
 use Rattle.slave.specs.declared.Slave.{Slave}
-
--- the packet arrives right and carries no notice
-unfoldable pub isPlain : Board → List ℕ → ℕ → Bool
-isPlain b p tick =
-    eqb (arrivalRefusal b p tick) 0 && eqb (errorIndicator p) 0 && (not (eqb (b .profile) 0) || not (eqb (packetIdentifier p) mipPid))
 
 -- a locked slave's next packet is a mark
 abbrev pub onMark : ℕ → ℕ → Bool

@@ -9,9 +9,9 @@ use Rattle.cadence.specs.Label.{labelOf, nextLabel}
 use Rattle.cadence.specs.MobileFrame.{frameMarks, mobilePlace}
 use Rattle.slave.specs.Answer.{Option, none, some, Notice, absent, taken, slip, ignored, Mark, unmarked, untimed, late, released, Result}
 use Rattle.slave.specs.declared.Slave.{Slave}
-use Rattle.slave.specs.declared.Taken.{Taken}
-use Rattle.slave.specs.declared.Judged.{Judged}
-use Rattle.slave.specs.declared.Judged.the-variants.{Refuse, Plain, Ignore, Take}
+use Rattle.judging.specs.declared.Taken.{Taken}
+use Rattle.judging.specs.declared.Judged.{Judged}
+use Rattle.judging.specs.declared.Judged.the-variants.{Refuse, Plain, Ignore, Take}
 
 -- each mark passed raises a known index by one, 19 to 0
 abbrev pub raised : ℕ → ℕ → ℕ

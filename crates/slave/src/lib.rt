@@ -1,5 +1,6 @@
 // The slave: it follows the cadence, takes notices and places marks in time (document 01, "Steps of a slave").
 use addressing::Settings;
+use judging::Board;
 use times::A110Times;
 use times::DvbTimes;
 ghost use mathlib.Core.Path.{_≡_};
@@ -26,31 +27,6 @@ pub struct Slave {
     pub index: u8,
     pub sts: u32,
     pub md: u32,
-}
-
-// The settings of a start.
-pub struct Board {
-    pub profile: u8,
-    pub n: u16,
-    pub site: u16,
-    pub tad: u32,
-}
-
-// What a notice that is taken gives.
-pub struct Taken {
-    pub pointer: u16,
-    pub sts: u32,
-    pub md: u32,
-    pub settings: Settings,
-    pub index: u8,
-}
-
-// How a packet was judged: a number of K, no notice, a number of C, or a notice to take.
-pub enum Judged {
-    Refuse(u8),
-    Plain,
-    Ignore(u8),
-    Take(Taken),
 }
 
 // A label or a place.
@@ -110,8 +86,6 @@ pub struct Shifted {
 }
 
 mod gaps;
-mod judge;
-mod limits;
 pub mod soundness;
 mod steps;
 
@@ -161,7 +135,7 @@ pub fn hunting_slave(profile: u8, n: u16, site: u16, tad: u32) -> Slave
 pub fn start(profile: u8, n: u16, site: u16, tad: u32) -> Shifted
     ensures { λ r. ⌜ (r .slave ≡ startOf profile n site tad .slave) × (outcomeOf (r .outcome) ≡ startOf profile n site tad .reply) ⌝ }
 {
-    if soundness::settings_kept(profile, n, site, tad) {
+    if limits::settings_kept(profile, n, site, tad) {
         return Shifted {
             slave: hunting_slave(profile, n, site, tad),
             outcome: Outcome::Done,
@@ -219,7 +193,7 @@ fn arrived(s: Slave, p: &[u8], tick: u32) -> Stepped
     if soundness::is_sound(s) {
         return steps::step(
             s,
-            judge::judge_packet(board_of(s), in_force(s), p, tick),
+            judging::judge_packet(board_of(s), in_force(s), p, tick),
             tick,
         );
     }
@@ -233,8 +207,8 @@ fn arrived(s: Slave, p: &[u8], tick: u32) -> Stepped
 pub fn packet(s: Slave, p: &[u8], tick: u32) -> Stepped
     ensures { λ r. ⌜ (r .slave ≡ packetOf s (now (p .entry)) tick .slave) × (answerOf (r .answer) ≡ packetOf s (now (p .entry)) tick .reply) ⌝ }
 {
-    if soundness::settings_kept(s.profile, s.n, s.site, s.tad) {
-        if soundness::parts_fit(
+    if limits::settings_kept(s.profile, s.n, s.site, s.tad) {
+        if limits::parts_fit(
             s.phase,
             s.profile,
             s.n,
@@ -248,7 +222,7 @@ pub fn packet(s: Slave, p: &[u8], tick: u32) -> Stepped
             s.sts,
             s.md,
         ) {
-            if judge::is_plain(board_of(s), p, tick) {
+            if judging::is_plain(board_of(s), p, tick) {
                 if !steps::on_mark(s.phase, s.next) {
                     let after = Slave {
                         phase: s.phase,
@@ -298,7 +272,7 @@ pub fn numbers_notice(
     if soundness::is_sound(s) {
         return steps::step(
             s,
-            judge::judge_numbers(
+            judging::judge_numbers(
                 board_of(s),
                 in_force(s),
                 p,
@@ -338,10 +312,10 @@ fn no_shortcut() -> Shortcut
 fn quick(s: Slave, p: &[u8], tick: u32) -> Shortcut
     ensures { λ r. ⌜ (r .applies ≡ applies s (now (p .entry)) tick) × (r .next ≡ quickNext s (now (p .entry)) tick) × (answerOf (r .answer) ≡ quickReply s (now (p .entry)) tick) ⌝ }
 {
-    if !soundness::settings_kept(s.profile, s.n, s.site, s.tad) {
+    if !limits::settings_kept(s.profile, s.n, s.site, s.tad) {
         return no_shortcut();
     }
-    if !soundness::parts_fit(
+    if !limits::parts_fit(
         s.phase,
         s.profile,
         s.n,
@@ -357,7 +331,7 @@ fn quick(s: Slave, p: &[u8], tick: u32) -> Shortcut
     ) {
         return no_shortcut();
     }
-    if !judge::is_plain(board_of(s), p, tick) {
+    if !judging::is_plain(board_of(s), p, tick) {
         return no_shortcut();
     }
     if steps::on_mark(s.phase, s.next) {

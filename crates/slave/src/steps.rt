@@ -1,14 +1,14 @@
 // The steps of a sound slave on a packet that was judged.
 use crate::Answer;
 use crate::Counted;
-use crate::Judged;
 use crate::MarkPart;
 use crate::Maybe;
 use crate::NoticePart;
 use crate::Slave;
 use crate::Stepped;
-use crate::Taken;
 use crate::gaps;
+use judging::Judged;
+use judging::Taken;
 use times::A110Release;
 use times::DvbRelease;
 use times::Periods;
@@ -20,7 +20,7 @@ ghost use lib.Dec.{eqb};
 ghost use Rattle.times.specs.Release.{dvbRelease, a110Release};
 ghost use Rattle.cadence.specs.Label.{nextLabel};
 ghost use Rattle.slave.specs.Answer.{optionOf, noticeOf, markOf, answerOf, untimed, unmarked};
-ghost use Rattle.slave.specs.Pointed.{Pointed};
+ghost use Rattle.judging.specs.Pointed.{Pointed};
 ghost use Rattle.slave.specs.Step.{placeOf, markFrom, releaseAt, markAt, indexAt, indexAfter, turns, passed, counted, entered, took, stepOf};
 ghost use Rattle.slave.specs.Quick.{onMark, labelLeft, plainReply};
 

@@ -18,7 +18,6 @@ pub struct Steps(pub u32);
 pub struct Periods(pub u32);
 
 // What a mark of profile 0 is released with. The wait is in steps too.
-#[repr(C)]
 pub struct DvbTimes {
     pub reference: Steps,
     pub emission: Steps,
@@ -34,7 +33,6 @@ pub enum DvbRelease {
 }
 
 // What a mark of profile 1 is released with. The wait is in periods too.
-#[repr(C)]
 pub struct A110Times {
     pub reference: Periods,
     pub emission: Periods,

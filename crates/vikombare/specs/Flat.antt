@@ -1,13 +1,11 @@
 -- The replies of the C calls as plain numbers, all 0 where there is nothing to say, and the tick that says its clock.
 -- Assumes nothing.
-use Prim.Native.Nat.{ℕ, zero, suc}
+use Prim.Native.Nat.{ℕ, _+_}
 use mathlib.Core.Bool.{Bool, true, false, cond}
 use lib.IntN.{pos}
 use lib.Dec.{eqb}
 use Rattle.wire.specs.Reply.{Reply, refused, given, numberOf}
 use Rattle.times.specs.Release.{Times}
-use Rattle.times.specs.declared.DvbTimes.{DvbTimes}
-use Rattle.times.specs.declared.A110Times.{A110Times}
 use Rattle.notice.specs.declared.Notice as Mip
 use Rattle.slave.specs.Answer.{Option, none, some, Notice, absent, taken, slip, ignored, Mark, unmarked, untimed, late, released, Count, Moved}
 use Rattle.vikombare.specs.declared.Tick.{Tick}
@@ -44,32 +42,16 @@ noticeNumber taken = 0
 noticeNumber slip = 0
 noticeNumber (ignored k) = k
 
-abbrev pub noSteps : DvbTimes
-noSteps = record { reference = record { 0 = 0 }; emission = record { 0 = 0 }; modulation = record { 0 = 0 }; wait = pos 0 }
-
-abbrev pub noPeriods : A110Times
-noPeriods = record { reference = record { 0 = 0 }; emission = record { 0 = 0 }; modulation = record { 0 = 0 }; wait = pos 0 }
-
 abbrev pub withoutTimes : ℕ → CMark.Mark
-withoutTimes k = record { kind = k; dvb = noSteps; a110 = noPeriods }
+withoutTimes k = record { kind = k; times = record { reference = 0; emission = 0; modulation = 0; wait = pos 0 } }
 
--- A released mark's times stand in the unit of its profile.
+-- A released mark's kind says its profile, and so the unit of its times.
 abbrev pub flatMark : Mark → CMark.Mark
 flatMark unmarked = withoutTimes 0
 flatMark untimed = withoutTimes 1
 flatMark late = withoutTimes 2
-flatMark (released zero t) =
-    record {
-      kind = 3;
-      dvb = record { reference = record { 0 = t .reference }; emission = record { 0 = t .emission }; modulation = record { 0 = t .modulation }; wait = t .wait };
-      a110 = noPeriods;
-    }
-flatMark (released (suc k) t) =
-    record {
-      kind = 4;
-      dvb = noSteps;
-      a110 = record { reference = record { 0 = t .reference }; emission = record { 0 = t .emission }; modulation = record { 0 = t .modulation }; wait = t .wait };
-    }
+flatMark (released k t) =
+    record { kind = k + 3; times = record { reference = t .reference; emission = t .emission; modulation = t .modulation; wait = t .wait } }
 
 abbrev pub flatCount : Count → PacketReply
 flatCount c =

@@ -5,21 +5,26 @@ use slave::MarkPart;
 use slave::Maybe;
 use slave::NoticePart;
 use slave::Outcome;
-use times::A110Times;
-use times::DvbTimes;
-use times::Periods;
-use times::Steps;
 ghost use mathlib.Core.Path.{_≡_};
 ghost use Rattle.wire.specs.Reply.{numberOf};
 ghost use Rattle.slave.specs.Answer.{optionOf, noticeOf, markOf, countOf, answerOf, outcomeOf};
-ghost use Rattle.vikombare.specs.Flat.{isSome, valueOf, noticeKind, noticeNumber, noSteps, noPeriods, withoutTimes, flatMark, flatCount, flatReply};
+ghost use Rattle.vikombare.specs.Flat.{isSome, valueOf, noticeKind, noticeNumber, withoutTimes, flatMark, flatCount, flatReply};
+
+// What a mark is released with, in the unit of its profile.
+#[repr(C)]
+pub struct MarkTimes {
+    pub reference: u32,
+    pub emission: u32,
+    pub modulation: u32,
+    pub wait: i64,
+}
 
 // A mark: 0 none, 1 untimed, 2 late (14), 3 released in profile 0 with its times in steps of 100 ns, 4 released in profile 1 with its times in bit periods.
+// In C the times are a union with a member for each unit.
 #[repr(C)]
 pub struct Mark {
     pub kind: u8,
-    pub dvb: DvbTimes,
-    pub a110: A110Times,
+    pub times: MarkTimes,
 }
 
 // The reply to a packet or a numbers notice. The number refuses the whole call, or is 0. The notice's part: 0 none, 1 taken, 2 slip, 3 ignored with its number.
@@ -76,35 +81,17 @@ fn notice_number(n: NoticePart) -> u8
     }
 }
 
-fn no_periods() -> A110Times
-    ensures { λ r. ⌜ r ≡ noPeriods ⌝ }
-{
-    A110Times {
-        reference: Periods(0),
-        emission: Periods(0),
-        modulation: Periods(0),
-        wait: 0,
-    }
-}
-
-fn no_steps() -> DvbTimes
-    ensures { λ r. ⌜ r ≡ noSteps ⌝ }
-{
-    DvbTimes {
-        reference: Steps(0),
-        emission: Steps(0),
-        modulation: Steps(0),
-        wait: 0,
-    }
-}
-
 fn no_times(kind: u8) -> Mark
     ensures { λ r. ⌜ r ≡ withoutTimes kind ⌝ }
 {
     Mark {
         kind: kind,
-        dvb: no_steps(),
-        a110: no_periods(),
+        times: MarkTimes {
+            reference: 0,
+            emission: 0,
+            modulation: 0,
+            wait: 0,
+        },
     }
 }
 
@@ -115,16 +102,34 @@ fn mark_of(m: MarkPart) -> Mark
         MarkPart::Unmarked => no_times(0),
         MarkPart::Untimed => no_times(1),
         MarkPart::Late => no_times(2),
-        MarkPart::Dvb(t) => Mark {
-            kind: 3,
-            dvb: t,
-            a110: no_periods(),
-        },
-        MarkPart::A110(t) => Mark {
-            kind: 4,
-            dvb: no_steps(),
-            a110: t,
-        },
+        MarkPart::Dvb(t) => {
+            let reference = t.reference;
+            let emission = t.emission;
+            let modulation = t.modulation;
+            Mark {
+                kind: 3,
+                times: MarkTimes {
+                    reference: reference.0,
+                    emission: emission.0,
+                    modulation: modulation.0,
+                    wait: t.wait,
+                },
+            }
+        }
+        MarkPart::A110(t) => {
+            let reference = t.reference;
+            let emission = t.emission;
+            let modulation = t.modulation;
+            Mark {
+                kind: 4,
+                times: MarkTimes {
+                    reference: reference.0,
+                    emission: emission.0,
+                    modulation: modulation.0,
+                    wait: t.wait,
+                },
+            }
+        }
     }
 }
 

@@ -1,7 +1,7 @@
 -- Laws of a chain of refusals: what each test of the code says of the chain, and what a chain that gives no number has passed.
 -- Assumes nothing.
 use mathlib.Core.Path.{_≡_, refl, sym, ap, _∙_, subst}
-use mathlib.Core.Bool.{Bool, true, false}
+use mathlib.Core.Bool.{Bool, true, false, _&&_}
 use Prim.Native.Nat.{ℕ, zero, suc}
 use native.Mathlib.Omega.{arith}
 use borrow.Author.Needs.{needs}
@@ -15,6 +15,11 @@ pub ruleset tests = (needs, eq-eqb, ne-eqb, lt-ltb, le-ltb, le-leb, lt-leb)
 pub passed : (b : Bool) (n rest : ℕ) → must b (suc n) rest ≡ 0 → (b ≡ true) × (rest ≡ 0)
 passed true n rest e = (refl, e)
 passed false n rest e = absurd (omega arith)
+
+-- both sides of a conjunction
+pub both : (a b : Bool) → (a && b) ≡ true → (a ≡ true) × (b ≡ true)
+both true b e = (refl, e)
+both false b e = (e, cc)
 
 -- where the first stage gives 0 the second decides, else the first
 pub else-second : (m n : ℕ) → m ≡ 0 → orElse m n ≡ n

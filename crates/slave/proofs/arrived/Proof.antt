@@ -7,14 +7,14 @@ use mir.Facts.{toZ-ofZ}
 use denote.Ref.{now}
 use Rattle.addressing.specs.declared.Settings.{Settings}
 use Rattle.slave.specs.Answer.{Result}
-use Rattle.slave.specs.Judge.{judgePacket}
-use Rattle.slave.specs.Pointed.{Pointed}
+use Rattle.judging.specs.Judge.{judgePacket}
+use Rattle.judging.specs.Pointed.{Pointed}
 use Rattle.slave.specs.Step.{stepOf}
 use Rattle.slave.specs.Calls.{boardOf, inForce}
-use Rattle.slave.specs.declared.Board.{Board}
-use Rattle.slave.specs.declared.Judged.{Judged}
+use Rattle.judging.specs.declared.Board.{Board}
+use Rattle.judging.specs.declared.Judged.{Judged}
 use Rattle.slave.proofs.Parts.{next-below}
-use Rattle.slave.proofs.Pointing.{packet-pointed}
+use Rattle.judging.proofs.Pointing.{packet-pointed}
 use Rattle.slave.proofs.Calling.{packet-steps, packet-refused}
 use Rattle.slave.proofs.arrived.Statement.{statement}
 use Rattle.slave.proofs.arrived.Tie as tie

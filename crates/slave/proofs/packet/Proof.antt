@@ -9,8 +9,9 @@ use mir.Syntax.{w16, w32}
 use mir.Val.{toZ, ofZ}
 use Rattle.slave.specs.Sound.{sound}
 use Rattle.slave.specs.Calls.{boardOf}
-use Rattle.slave.specs.Quick.{isPlain, onMark, applies}
-use Rattle.slave.specs.declared.Board.{Board}
+use Rattle.judging.specs.Plain.{isPlain}
+use Rattle.slave.specs.Quick.{onMark, applies}
+use Rattle.judging.specs.declared.Board.{Board}
 use Rattle.slave.proofs.Parts.{next-below}
 use Rattle.slave.proofs.Plain.{keptOf, partsOf, parts-read, sound-by, short, short-slave, short-reply}
 use Rattle.slave.proofs.packet.Statement.{statement}

@@ -6,7 +6,8 @@ use lib.IntN.{ℤ}
 use borrow.Author.Tests.{not-true, not-false}
 use mir.Syntax.{w16, w32}
 use mir.Val.{toZ, ofZ}
-use Rattle.slave.specs.Sound.{partsFit, sound}
+use Rattle.limits.specs.Limits.{partsFit}
+use Rattle.slave.specs.Sound.{sound}
 use Rattle.slave.proofs.soundness.is_sound.Statement.{statement}
 use Rattle.slave.proofs.soundness.is_sound.Tie as tie
 

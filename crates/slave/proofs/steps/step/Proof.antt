@@ -2,9 +2,9 @@
 -- Assumes nothing.
 use borrow.Author.Needs.{needs}
 use mathlib.Core.Path.{_≡_, sym, ap, subst, _∙_}
-use Rattle.slave.specs.Pointed.{Pointed}
+use Rattle.judging.specs.Pointed.{Pointed}
 use Rattle.slave.specs.Step.{stepOf}
-use Rattle.slave.specs.declared.Judged.{Judged}
+use Rattle.judging.specs.declared.Judged.{Judged}
 use Rattle.slave.proofs.steps.step.Statement.{statement}
 use Rattle.slave.proofs.steps.step.Tie as tie
 

@@ -2,11 +2,21 @@
 -- Assumes nothing.
 use borrow.Author.Needs.{needs}
 use mathlib.Core.Path.{_≡_, sym, ap, _∙_}
+use Prim.Native.Nat.{ℕ}
+use lib.IntN.{ℤ}
+use mir.Syntax.{w64}
+use mir.Val.{toZ, ofZ}
 use Rattle.slave.specs.Answer.{markOf}
 use Rattle.slave.specs.declared.MarkPart.{MarkPart}
+use Rattle.vikombare.specs.declared.reply.Mark.{Mark}
 use Rattle.vikombare.specs.Flat.{flatMark}
 use Rattle.vikombare.proofs.reply.mark_of.Statement.{statement}
 use Rattle.vikombare.proofs.reply.mark_of.Tie as tie
+
+-- a wait that is read back from its bits
+same-times : {k r e m : ℕ} {w w′ : ℤ} → w ≡ w′
+    → _≡_ {A = Mark} (record { kind = k; times = record { reference = r; emission = e; modulation = m; wait = w } }) (record { kind = k; times = record { reference = r; emission = e; modulation = m; wait = w′ } })
+same-times {k = k} {r = r} {e = e} {m = m} p = λ i. record { kind = k; times = record { reference = r; emission = e; modulation = m; wait = p i } }
 
 enum-told : tie.Need-enum-told
 enum-told c = search needs
@@ -29,14 +39,8 @@ no-times-requires-3 c κs = search needs
 enum-known-m : tie.Need-enum-known-m
 enum-known-m c = search needs
 
-no-periods-requires : tie.Need-no-periods-requires
-no-periods-requires c κs = search needs
-
 enum-known-m-2 : tie.Need-enum-known-m-2
 enum-known-m-2 c = search needs
-
-no-steps-requires : tie.Need-no-steps-requires
-no-steps-requires c κs = search needs
 
 returns : tie.Need-returns
 returns c = c .no-times .ensures ∙ sym (ap (λ (r : MarkPart). flatMark (markOf r)) (c .before .enum-told .given .1))
@@ -49,13 +53,15 @@ returns-3 c = c .no-times3 .ensures ∙ sym (ap (λ (r : MarkPart). flatMark (ma
 
 returns-4 : tie.Need-returns-4
 returns-4 c =
-    let t = c .before .before .m .given in
-    (λ i. record { kind = 3; dvb = t .0 .0; a110 = c .no-periods .ensures i }) ∙ sym (ap (λ (r : MarkPart). flatMark (markOf r)) (t .1))
+    let t = c .before .before .before .before .before .m .given in
+    let w : toZ w64 (ofZ w64 (t .0 .0 .wait)) ≡ t .0 .0 .wait = search needs in
+    same-times w ∙ sym (ap (λ (r : MarkPart). flatMark (markOf r)) (t .1))
 
 returns-5 : tie.Need-returns-5
 returns-5 c =
-    let t = c .before .before .m2 .given in
-    (λ i. record { kind = 4; dvb = c .no-steps .ensures i; a110 = t .0 .0 }) ∙ sym (ap (λ (r : MarkPart). flatMark (markOf r)) (t .1))
+    let t = c .before .before .before .before .before .m2 .given in
+    let w : toZ w64 (ofZ w64 (t .0 .0 .wait)) ≡ t .0 .0 .wait = search needs in
+    same-times w ∙ sym (ap (λ (r : MarkPart). flatMark (markOf r)) (t .1))
 
 pub mark-of-spec : {M : Type 1} → statement M
 mark-of-spec =
@@ -68,9 +74,7 @@ mark-of-spec =
     enum-told-3
     no-times-requires-3
     enum-known-m
-    no-periods-requires
     enum-known-m-2
-    no-steps-requires
     returns
     returns-2
     returns-3

@@ -1,0 +1,4 @@
+-- The definitions of crate `judging`, in reading order.
+pub mod Judge
+pub mod Plain
+pub mod Pointed

@@ -1,0 +1,3 @@
+-- The laws of crate `limits`.
+pub mod Profiles
+pub mod Bounds

@@ -1,0 +1,2 @@
+-- The definitions of crate `limits`.
+pub mod Limits

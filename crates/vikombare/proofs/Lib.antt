@@ -1,0 +1,2 @@
+-- The laws of crate `vikombare`.
+pub mod Clocks
