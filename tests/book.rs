@@ -4,7 +4,7 @@
 use crate::answers::Answer;
 use crate::calls::{self, Board, Call, Code, Form, Lent};
 use crate::comparison::{Cases, Compared, Comparison, Difference};
-use crate::ground::{self, Settings};
+use crate::ground::{self, Settings, Times};
 use crate::inputs::{self, Random, WRONG_FORMS};
 use crate::shrink;
 use crate::slave::{second, Numbers, Slave, UNKNOWN};
@@ -108,11 +108,11 @@ struct Step {
     call: Call,
 }
 
-/// One slave's run, its book, and the reference times of the marks that it released told exactly, by place.
+/// One slave's run, its book, and the times of the marks that it released told exactly, by place.
 struct Listener {
     slave: Slave,
     book: Book,
-    references: BTreeMap<u64, u32>,
+    released: BTreeMap<u64, Times>,
 }
 
 /// Both runs as far as they have come.
@@ -144,7 +144,7 @@ impl Books {
         let listeners = network.boards.map(|board| Listener {
             slave: code(&Call::Start(board), crate::slave::COLD).slave,
             book: Book { adapter: network.adapter, site: board.site, tad: board.tad, od: 0, open: None },
-            references: BTreeMap::new(),
+            released: BTreeMap::new(),
         });
         Books { code, network, listeners }
     }
@@ -189,12 +189,11 @@ impl Books {
         }
         saw("ignored with", part.1.into());
         listener.counted(step.place, &judged, &answer, saw)?;
-        // A mark that both released told exactly has one reference time.
-        if let Some(other) = self.listeners[1 - step.who].references.get(&step.place) {
-            if let Some(one) = self.listeners[step.who].references.get(&step.place) {
-                hold("two slaves on one stream", one, other)?;
-                saw("mark released by both in profile", self.network.adapter.profile.into());
-            }
+        // A mark that both released told exactly has one reference time, also where it has two emission times.
+        if let [Some(one), Some(other)] = self.listeners.each_ref().map(|listener| listener.released.get(&step.place)) {
+            hold("two slaves on one stream", one.reference, other.reference)?;
+            saw("mark released by both in profile", self.network.adapter.profile.into());
+            saw("mark released by both, emission the same (0), another (1)", i64::from(one.emission != other.emission));
         }
         Ok(true)
     }
@@ -239,7 +238,7 @@ impl Listener {
                 hold("label and reference time told exactly", (adapters_label, answer.times.reference), (0, reference))?;
                 saw("told exactly, released in profile", profile.into());
                 saw("told exactly, released beside a notice taken", taken.into());
-                self.references.insert(place, answer.times.reference);
+                self.released.insert(place, answer.times);
             } else if answer.times.reference != reference {
                 saw("not told exactly, released with another time", 0);
             }
@@ -461,5 +460,6 @@ pub fn cases() -> Cases {
         (BOOK, "told exactly, released beside a notice taken", vec![0, 1]),
         (BOOK, "not told exactly, released with another time", vec![0]),
         (BOOK, "mark released by both in profile", vec![0, 1]),
+        (BOOK, "mark released by both, emission the same (0), another (1)", vec![0, 1]),
     ]
 }

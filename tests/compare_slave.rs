@@ -130,6 +130,7 @@ fn required() -> Cases {
         (NUMBERS, "judged by 13, MD + OD + TAD", [0, 1].into_iter().chain([-1, 0].map(|k| k + i64::from(A110_SECOND))).collect()),
         // 0 untold, 1 too few, 2 exactly, 3 too many
         (RUN, "packets lost and told", vec![0, 1, 2, 3]),
+        (RUN, "resumed with", vec![0, 16]),
         ("gap", "number", vec![0, 15]),
         ("gap", "in phase", vec![1, 2]),
         ("gap", "k", (0..=65_535).collect()),

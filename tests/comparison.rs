@@ -156,8 +156,8 @@ pub fn found<F, S: Default>(seed_of_runs: u64, fault: F, what: &str, seed: fn(Op
         Err(Difference { text, calls, again }) if calls > longest || !again => {
             println!("NOT SHORTENED{by}: {what}: {calls} calls, fails again: {again}\n{text}");
         }
-        Err(Difference { calls, .. }) => {
-            println!("found{by} at call {:>6}, shortest sequence of {calls}: {what}", comparison.calls);
+        Err(Difference { text, calls, .. }) => {
+            println!("found{by} at call {}, shortest sequence of {calls}: {what}\n{text}", comparison.calls);
             return true;
         }
     }

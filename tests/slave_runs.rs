@@ -1,10 +1,11 @@
 //! A slave's calls compared and counted, and random runs of them on an adapter's stream: losses told and untold, damage, slips, late marks.
 
 use crate::answers::{Change, Step};
-use crate::calls::{Board, Call, Form, Lent, Outcome};
+use crate::calls::{Board, Call, Form, Lent, Outcome, Said};
 use crate::comparison::Compared;
 use crate::ground::{self, Settings, A110_SECOND};
 use crate::inputs::{self, Random};
+use crate::saved;
 use crate::sequences::Sequences;
 use crate::slave::{second, Numbers, Slave, HUNTING, LOCKED, UNKNOWN};
 use crate::streams::*;
@@ -181,6 +182,9 @@ impl Sequences {
             if self.random.one_in(16) {
                 self.beside(|beside| beside.changed_slave(&run))?;
             }
+            if self.random.one_in(60) {
+                self.warm_boot(&mut run)?;
+            }
         }
         Ok(())
     }
@@ -253,6 +257,27 @@ impl Sequences {
         if stepped.answer.number == 0 || self.random.one_in(2) {
             run.place += 1;
         }
+        Ok(())
+    }
+
+    /// Saves the slave and resumes it, at times from a block with a bit flipped; the run goes on with what is left.
+    fn warm_boot(&mut self, run: &mut Run) -> Compared {
+        let r = &mut self.random;
+        let length = saved::BLOCK + r.below(3);
+        let buffer = r.bytes(length);
+        let out = Lent::between(r, &buffer);
+        let from = out.from();
+        let Said::Written(_, bytes) = self.call(run.slave, Call::Save(out))?.said else { unreachable!("a save gives bytes") };
+        let mut block = bytes.0[from..from + saved::BLOCK].to_vec();
+        let r = &mut self.random;
+        if r.one_in(4) {
+            let bit = r.below(8 * saved::BLOCK);
+            block[bit / 8] ^= 1 << (bit % 8);
+        }
+        let lent = Lent::new(r, &block);
+        let resumed = self.call(run.slave, Call::Resume(lent, Board::of(&run.slave)))?;
+        self.saw(RUN, "resumed with", resumed.number());
+        run.slave = resumed.slave;
         Ok(())
     }
 
