@@ -1,8 +1,10 @@
-//! Measures the proved ground layer against plain implementations built for release: one table of nanoseconds a call and ratios.
+//! Measures the check value, notices and times against plain implementations built for release: one table of nanoseconds a call and ratios.
 //! A ratio under 1 means that the proved code is the faster one. Each figure is the best of many rounds, the candidates taking turns.
 
 #![allow(dead_code)] // parts of the shared modules are for the comparison alone
 
+mod answers;
+#[macro_use]
 #[path = "other/faults.rs"]
 mod faults;
 #[path = "other/ground.rs"]
@@ -10,10 +12,14 @@ mod ground;
 mod inputs;
 mod measure;
 mod probe;
+#[path = "other/slave.rs"]
+mod slave;
+mod vikombare;
 
+use answers::Reading;
 use ground::{Notice, Settings, A110_SECOND, DVB_SECOND};
 use inputs::{Moment, Random};
-use measure::{candidate, full_field, register_by_nibbles, table, INPUTS, ROUNDS};
+use measure::{candidate, full_field, register_by_nibbles, table, INPUTS};
 use std::hint::black_box;
 
 extern "C" {
@@ -25,12 +31,12 @@ extern "C" {
 // The plain candidates, each behind a call, as the proved code is.
 
 #[inline(never)]
-fn plain_read(packet: &[u8]) -> probe::Reading {
+fn plain_read(packet: &[u8]) -> Reading {
     ground::read(packet).into()
 }
 
 #[inline(never)]
-fn nibbles_read(packet: &[u8]) -> probe::Reading {
+fn nibbles_read(packet: &[u8]) -> Reading {
     ground::read_with(register_by_nibbles, packet).into()
 }
 
@@ -75,29 +81,27 @@ fn main() {
         }
     }
 
-    println!("{:<44} {:>8} {:>8}   {:>5}", "nanoseconds a call", "proved", "plain", "ratio");
+    println!("| Call | Proved | Plain | Ratio | Against |\n|---|---|---|---|---|");
     table(
         "check value, 188 bytes",
-        ROUNDS,
         vec![
             candidate("proved", |k| probe::register(&bytes[k])),
-            candidate("C -O3, the same nibble tables, eight bytes a turn", |k| unsafe { c_nibbles(bytes[k].as_ptr(), 188) }),
-            candidate("C -O3 -fno-tree-reassoc, the same", |k| unsafe { c_nibbles_in_order(bytes[k].as_ptr(), 188) }),
+            candidate("C, the same nibble tables, eight bytes a turn", |k| unsafe { c_nibbles(bytes[k].as_ptr(), 188) }),
+            candidate("C, the same, terms in the order written (-fno-tree-reassoc)", |k| unsafe { c_nibbles_in_order(bytes[k].as_ptr(), 188) }),
             candidate("Rust, the same", |k| register_by_nibbles(&bytes[k])),
-            candidate("C -O3, byte table of 256", |k| unsafe { c_byte_table(bytes[k].as_ptr(), 188) }),
+            candidate("C, byte table of 256", |k| unsafe { c_byte_table(bytes[k].as_ptr(), 188) }),
         ],
     );
     for a in [0, 163] {
         let packets: Vec<Vec<u8>> = (0..INPUTS).map(|k| inputs::packet_of(&notices[k], &fields[k][..a])).collect();
         for packet in &packets {
-            let reading = probe::read(packet);
+            let reading = vikombare::read(packet);
             assert!(reading.number == 0 && reading == plain_read(packet) && reading == nibbles_read(packet));
         }
         table(
             &format!("read, a = {a}"),
-            ROUNDS,
             vec![
-                candidate("proved", |k| probe::read(&packets[k])),
+                candidate("proved", |k| vikombare::notice_read(&packets[k])),
                 candidate("Rust, byte table", |k| plain_read(&packets[k])),
                 candidate("Rust, the same nibble tables", |k| nibbles_read(&packets[k])),
             ],
@@ -109,15 +113,17 @@ fn main() {
         let (ours, plain, nibbles) = (out(), out(), out());
         for k in 0..INPUTS {
             let (ours, plain, nibbles) = (&mut *ours.borrow_mut(), &mut *plain.borrow_mut(), &mut *nibbles.borrow_mut());
-            let numbers =
-                [probe::write(ours, &notices[k], field(k)), plain_write(plain, &notices[k], field(k)), nibbles_write(nibbles, &notices[k], field(k))];
+            let numbers = [
+                vikombare::write(ours, &notices[k], field(k)),
+                plain_write(plain, &notices[k], field(k)),
+                nibbles_write(nibbles, &notices[k], field(k)),
+            ];
             assert!(numbers == [0; 3] && ours == plain && ours == nibbles);
         }
         table(
             &format!("write, a = {a}"),
-            ROUNDS,
             vec![
-                candidate("proved", |k| probe::write(black_box(&mut *ours.borrow_mut()), &notices[k], field(k))),
+                candidate("proved", |k| vikombare::write(black_box(&mut *ours.borrow_mut()), &notices[k], field(k))),
                 candidate("Rust, byte table", |k| plain_write(black_box(&mut *plain.borrow_mut()), &notices[k], field(k))),
                 candidate("Rust, the same nibble tables", |k| nibbles_write(black_box(&mut *nibbles.borrow_mut()), &notices[k], field(k))),
             ],
@@ -125,14 +131,12 @@ fn main() {
     }
     let before = Settings::default();
     table(
-        "settings, 163 bytes",
-        ROUNDS,
+        "settings of a site, 163 bytes",
         vec![candidate("proved", |k| probe::settings(&fields[k], 7, before)), candidate("Rust", |k| plain_settings(&fields[k], 7, before))],
     );
     let dvb = moments(r, DVB_SECOND, |m| ground::dvb_release(m.sts, m.md, m.od, m.tad, m.arrival).is_ok());
     table(
         "DVB release",
-        ROUNDS,
         vec![
             candidate("proved", |k| probe::dvb_release(dvb[k].sts, dvb[k].md, dvb[k].od, dvb[k].tad, dvb[k].arrival)),
             candidate("Rust", |k| plain_dvb_release(dvb[k].sts, dvb[k].md, dvb[k].od, dvb[k].tad, dvb[k].arrival)),
@@ -141,7 +145,6 @@ fn main() {
     let a110 = moments(r, A110_SECOND, |m| ground::a110_release(m.sts, m.md, m.od, m.tad, m.arrival).is_ok());
     table(
         "A/110 release",
-        ROUNDS,
         vec![
             candidate("proved", |k| probe::a110_release(a110[k].sts, a110[k].md, a110[k].od, a110[k].tad, a110[k].arrival)),
             candidate("Rust", |k| plain_a110_release(a110[k].sts, a110[k].md, a110[k].od, a110[k].tad, a110[k].arrival)),

@@ -1,8 +1,10 @@
-//! Measures the proved slave against the other implementation built for release: one table of nanoseconds a call and ratios.
+//! Measures the proved slave, save and resume against the other implementation built for release: one table of nanoseconds a call and ratios.
+//! Packets in place, numbers notices, gaps, saves and resumes are the calls that a board links; packets by value are a test's.
 //! A ratio under 1 means that the proved code is the faster one. Each figure is the best of many rounds, the candidates taking turns.
 
 #![allow(dead_code)] // parts of the shared modules are for the comparison alone
 
+mod answers;
 #[macro_use]
 #[path = "other/faults.rs"]
 mod faults;
@@ -10,33 +12,36 @@ mod faults;
 mod ground;
 mod inputs;
 mod measure;
+mod probe;
+#[path = "other/saved.rs"]
+mod saved;
 #[path = "other/slave.rs"]
 mod slave;
-mod slave_probe;
+mod vikombare;
 
+use answers::{Change, Step};
 use ground::Notice;
 use inputs::Random;
-use measure::{candidate, full_field, register_by_bytes, register_by_nibbles, table, Candidate, INPUTS, ROUNDS};
+use measure::{best, candidate, full_field, register_by_bytes, register_by_nibbles, Candidate, INPUTS, ROUNDS};
 use slave::{Numbers, Reply, Slave, LOCKED, UNKNOWN};
-use slave_probe::{Shifted, Stepped};
 use std::hint::black_box;
 use std::time::Instant;
 
 // ---- The candidates, each behind a call
 
 #[inline(never)]
-fn by_value(slave: Slave, packet: &[u8], tick: u32) -> Stepped {
+fn by_value(slave: Slave, packet: &[u8], tick: u32) -> Step {
     slave.packet_by_value(packet, tick).into()
 }
 
 #[inline(never)]
-fn nibbles_by_value(mut slave: Slave, packet: &[u8], tick: u32) -> Stepped {
+fn nibbles_by_value(mut slave: Slave, packet: &[u8], tick: u32) -> Step {
     let reply = slave.packet_with(register_by_nibbles, packet, tick);
     (slave, reply).into()
 }
 
 #[inline(never)]
-fn bytes_by_value(mut slave: Slave, packet: &[u8], tick: u32) -> Stepped {
+fn bytes_by_value(mut slave: Slave, packet: &[u8], tick: u32) -> Step {
     let reply = slave.packet_with(register_by_bytes, packet, tick);
     (slave, reply).into()
 }
@@ -57,7 +62,7 @@ fn bytes_in_place(slave: &mut Slave, packet: &[u8], tick: u32) -> Result<Reply, 
 }
 
 #[inline(never)]
-fn numbers_by_value(slave: Slave, packet: &[u8], tick: u32, numbers: &Numbers) -> Stepped {
+fn numbers_by_value(slave: Slave, packet: &[u8], tick: u32, numbers: &Numbers) -> Step {
     slave.numbers_by_value(packet, tick, numbers).into()
 }
 
@@ -67,7 +72,7 @@ fn numbers_in_place(slave: &mut Slave, packet: &[u8], tick: u32, numbers: &Numbe
 }
 
 #[inline(never)]
-fn gap_by_value(slave: Slave, k: u16) -> Shifted {
+fn gap_by_value(slave: Slave, k: u16) -> Change {
     slave.gap_by_value(k).into()
 }
 
@@ -76,7 +81,27 @@ fn gap_in_place(slave: &mut Slave, k: u16) -> Result<(), u8> {
     slave.gap(k)
 }
 
+#[inline(never)]
+fn save(slave: &Slave, out: &mut [u8]) -> Result<(), u8> {
+    saved::save(slave, out)
+}
+
+#[inline(never)]
+fn resume(block: &[u8], s: &Slave) -> Change {
+    saved::resume(block, s.profile, s.n, s.site, s.tad).into()
+}
+
 // ---- Measuring
+
+/// A row: by value and in place, each the proved code's figure and the plain one's.
+fn row(what: &str, by_value: [Option<f64>; 2], in_place: [Option<f64>; 2]) {
+    let figure = |figure: Option<f64>| figure.map_or(String::new(), |nanoseconds| format!("{nanoseconds:.1}"));
+    let cells = |[proved, plain]: [Option<f64>; 2]| {
+        let ratio = proved.zip(plain).map_or(String::new(), |(proved, plain)| format!("{:.2}", proved / plain));
+        format!("{} | {} | {ratio}", figure(proved), figure(plain))
+    };
+    println!("| {what} | {} | {} |", cells(by_value), cells(in_place));
+}
 
 /// Calls of a kind, each with its own slave and packet.
 struct Calls {
@@ -97,55 +122,60 @@ impl Calls {
     /// Rows by value and in place. What is measured gives the same results, and this notice and mark.
     fn measure(&self, what: &str, notice: u8, mark: u8) {
         for (&slave, packet) in self.slaves.iter().zip(&self.packets) {
-            let ours = slave_probe::packet(slave, packet, tick());
+            let ours = probe::packet(slave, packet, tick());
+            let mut lent = slave;
+            let answer = vikombare::packet(&mut lent, packet, slave.profile, tick());
+            assert!(ours == Step { slave: lent, answer }, "{slave:?} {ours:?} {answer:?}");
             let plain = [by_value, nibbles_by_value, bytes_by_value].map(|call| call(slave, packet, tick()));
             let lent = [in_place, nibbles_in_place, bytes_in_place].map(|call| {
                 let mut moved = slave;
                 let reply = call(&mut moved, packet, tick());
-                Stepped::from((moved, reply))
+                Step::from((moved, reply))
             });
             assert!(plain == [ours; 3] && lent == [ours; 3], "{slave:?} {ours:?} {plain:?}");
-            assert!((ours.answer.number, ours.answer.notice, ours.answer.mark.kind) == (0, notice, mark), "{slave:?} {ours:?}");
+            assert!((ours.answer.number, ours.answer.notice, ours.answer.mark) == (0, notice, mark), "{slave:?} {ours:?}");
         }
         let Calls { slaves, packets } = self;
         // written out for each call: a function between would copy what is handed back
         macro_rules! by_value {
-            ($name:expr, $call:path) => {
-                candidate($name, |k| $call(slaves[k], &packets[k], tick()))
+            ($call:path) => {
+                candidate("", |k| $call(slaves[k], &packets[k], tick()))
             };
         }
         // a slave that a plain packet moved serves again, any other is put back first
         let again = notice == 0 && mark == 0;
         macro_rules! in_place {
-            ($name:expr, $call:path) => {{
+            ($call:path $(, $profile:expr)?) => {{
                 let mut lent = slaves.clone();
-                candidate($name, move |k| {
+                candidate("", move |k| {
                     if !again {
                         lent[k] = slaves[k];
                     }
-                    $call(&mut lent[k], &packets[k], tick())
+                    $call(&mut lent[k], &packets[k], $($profile,)? tick())
                 })
             }};
         }
-        let plain = if notice == 0 { "Rust" } else { "Rust, byte table" };
-        let mut by_values = vec![by_value!("proved", slave_probe::packet), by_value!(plain, by_value)];
-        let mut in_places = vec![in_place!("proved", slave_probe::packet_in_place), in_place!(plain, in_place)];
+        let profile = black_box(slaves[0].profile);
+        let mut by_values = vec![by_value!(probe::stepped), by_value!(by_value)];
+        let mut in_places = vec![in_place!(vikombare::reply, profile), in_place!(in_place)];
+        let mut against = vec![String::from(what)];
         if notice != 0 {
-            by_values.push(by_value!("Rust, the same nibble tables", nibbles_by_value));
-            by_values.push(by_value!("Rust, eight byte tables", bytes_by_value));
-            in_places.push(in_place!("Rust, the same nibble tables", nibbles_in_place));
-            in_places.push(in_place!("Rust, eight byte tables", bytes_in_place));
+            by_values.extend([by_value!(nibbles_by_value), by_value!(bytes_by_value)]);
+            in_places.extend([in_place!(nibbles_in_place), in_place!(bytes_in_place)]);
+            against = ["byte table", "the same nibble tables", "eight byte tables"].map(|tables| format!("{what}, {tables}")).to_vec();
         }
-        table(&format!("{what}, by value"), ROUNDS, by_values);
-        table(&format!("{what}, in place"), ROUNDS, in_places);
+        let (by_value, in_place) = (best(ROUNDS, by_values), best(ROUNDS, in_places));
+        for (k, what) in (1..).zip(against) {
+            row(&what, [0, k].map(|k| Some(by_value[k])), [0, k].map(|k| Some(in_place[k])));
+        }
     }
 }
 
 /// A stream with one notice in a cadence, from that notice on: nanoseconds a packet in the best thousand of its last million packets.
-fn stream<'a, T>(name: &'a str, packets: usize, mut step: impl FnMut(&mut Slave, &[u8], u32) -> T + 'a) -> Candidate<'a> {
+fn stream<'a, T>(packets: usize, mut step: impl FnMut(&mut Slave, &[u8], u32) -> T + 'a) -> Candidate<'a> {
     const N: u16 = 2016;
     const NOTICED: u16 = 1516;
-    let (null, notice) = (null(), mip(N - 1 - NOTICED, &[]));
+    let (null, notice) = (inputs::null(), mip(N - 1 - NOTICED, &[]));
     let round = move || {
         let mut slave = Slave::hunting(0, N, 7, 0);
         let mut label = NOTICED;
@@ -165,13 +195,7 @@ fn stream<'a, T>(name: &'a str, packets: usize, mut step: impl FnMut(&mut Slave,
         assert!(slave.phase == LOCKED && slave.next == label);
         best
     };
-    (name, Box::new(round))
-}
-
-fn null() -> Vec<u8> {
-    let mut packet = vec![0xFF; 188];
-    packet[..4].copy_from_slice(&[0x47, 0x1F, 0xFF, 0x10]);
-    packet
+    ("", Box::new(round))
 }
 
 fn mip(pointer: u16, field: &[u8]) -> Vec<u8> {
@@ -184,12 +208,12 @@ fn main() {
     let due = |k: usize| Slave { next: 0, pending: 1, sts: 9_500_000 + k as u32, md: 700_000, ..locked(k) };
     let of_a110 = |slave: Slave| Slave { profile: 1, n: 624, index: if slave.phase == LOCKED { 19 } else { UNKNOWN }, ..slave };
 
-    println!("{:<44} {:>8} {:>8}   {:>5}", "nanoseconds a call", "proved", "plain", "ratio");
-    Calls::new(|_| hunting, |_| null()).measure("null packet, hunting", 0, 0);
-    Calls::new(locked, |_| null()).measure("null packet, locked", 0, 0);
-    Calls::new(|k| of_a110(locked(k)), |_| null()).measure("null packet, locked, profile 1", 0, 0);
-    Calls::new(due, |_| null()).measure("null packet on a mark", 0, 3);
-    Calls::new(|k| of_a110(due(k)), |_| null()).measure("null packet on a mark, profile 1", 0, 4);
+    println!("\n| Call | Proved, by value | Rust, by value | Ratio | Proved, in place | Rust, in place | Ratio |\n|---|---|---|---|---|---|---|");
+    Calls::new(|_| hunting, |_| inputs::null()).measure("null packet, hunting", 0, 0);
+    Calls::new(locked, |_| inputs::null()).measure("null packet, locked", 0, 0);
+    Calls::new(|k| of_a110(locked(k)), |_| inputs::null()).measure("null packet, locked, profile 1", 0, 0);
+    Calls::new(due, |_| inputs::null()).measure("null packet on a mark", 0, 3);
+    Calls::new(|k| of_a110(due(k)), |_| inputs::null()).measure("null packet on a mark, profile 1", 0, 3);
     let r = &mut Random(1);
     let fields: Vec<Vec<u8>> = (0..INPUTS).map(|_| full_field(r)).collect();
     for a in [0, 163] {
@@ -199,48 +223,82 @@ fn main() {
     let slaves: Vec<Slave> = (0..INPUTS).map(|k| of_a110(locked(k))).collect();
     let numbers: Vec<Numbers> =
         (0..INPUTS).map(|k| Numbers { pointer: 623 - slaves[k].next, sts: 9_500_000, md: 700_000, od: -51, index: (k % 20) as u8 }).collect();
-    let null = null();
+    let null = inputs::null();
     for (slave, numbers) in slaves.iter().zip(&numbers) {
-        let ours = slave_probe::numbers(*slave, &null, tick(), numbers);
+        let ours = vikombare::numbers(*slave, &null, tick(), numbers);
         assert!(ours.answer.notice == 1 && ours == numbers_by_value(*slave, &null, tick(), numbers), "{slave:?} {ours:?}");
     }
-    table(
-        "numbers notice",
+    let figures = best(
         ROUNDS,
         vec![
-            candidate("proved", |k| slave_probe::numbers(slaves[k], &null, tick(), &numbers[k])),
-            candidate("Rust by value", |k| numbers_by_value(slaves[k], &null, tick(), &numbers[k])),
-            candidate("Rust in place", |k| numbers_in_place(black_box(&mut slaves[k].clone()), &null, tick(), &numbers[k])),
+            candidate("", |k| vikombare::stepped(slaves[k], &null, tick(), &numbers[k])),
+            candidate("", |k| numbers_by_value(slaves[k], &null, tick(), &numbers[k])),
+            candidate("", |k| numbers_in_place(black_box(&mut slaves[k].clone()), &null, tick(), &numbers[k])),
         ],
     );
+    row("numbers notice", [Some(figures[0]), Some(figures[1])], [None, Some(figures[2])]);
 
-    for (what, slaves) in [("gap", (0..INPUTS).map(due).collect()), ("gap, profile 1", slaves)] {
+    let dues: Vec<Slave> = (0..INPUTS).map(due).collect();
+    for (what, slaves) in [("gap", dues.clone()), ("gap, profile 1", slaves)] {
         let k_of = |k: usize| (1_000 * k) as u16;
         for (k, slave) in slaves.iter().enumerate() {
-            assert!(slave_probe::gap(*slave, k_of(k)) == gap_by_value(*slave, k_of(k)));
+            assert!(vikombare::gap(*slave, k_of(k)) == gap_by_value(*slave, k_of(k)));
         }
         let mut moving: Vec<Slave> = slaves.clone();
-        table(
-            what,
+        let figures = best(
             ROUNDS,
             vec![
-                candidate("proved", |k| slave_probe::gap(slaves[k], k_of(k))),
-                candidate("Rust by value", |k| gap_by_value(slaves[k], k_of(k))),
-                candidate("Rust in place", move |k| gap_in_place(&mut moving[k], k_of(k))),
+                candidate("", |k| vikombare::gap(slaves[k], k_of(k))),
+                candidate("", |k| gap_by_value(slaves[k], k_of(k))),
+                candidate("", move |k| gap_in_place(&mut moving[k], k_of(k))),
             ],
         );
+        row(what, [Some(figures[0]), Some(figures[1])], [None, Some(figures[2])]);
     }
+    saves(&dues);
 
     let per_packet = [("a thousand", 1_000, ROUNDS), ("ten million", 10_000_000, 1)].map(|(many, packets, rounds)| {
-        let what = format!("packet in a stream of {many}");
-        let back = |slave: &mut Slave, stepped: Stepped| *slave = stepped.slave;
         let by_values = vec![
-            stream("proved", packets, move |slave, packet, tick| back(slave, slave_probe::packet(*slave, packet, tick))),
-            stream("Rust", packets, move |slave, packet, tick| back(slave, by_value(*slave, packet, tick))),
+            stream(packets, |slave, packet, tick| *slave = probe::stepped(*slave, packet, tick).slave),
+            stream(packets, |slave, packet, tick| *slave = by_value(*slave, packet, tick).slave),
         ];
-        let figure = table(&format!("{what}, by value"), rounds, by_values);
-        table(&format!("{what}, in place"), rounds, vec![stream("proved", packets, slave_probe::packet_in_place), stream("Rust", packets, in_place)]);
-        figure
+        let profile = black_box(0);
+        let in_places = vec![stream(packets, |slave, packet, tick| vikombare::reply(slave, packet, profile, tick)), stream(packets, in_place)];
+        let (by_value, in_place) = (best(rounds, by_values), best(rounds, in_places));
+        row(&format!("stream of {many} packets, each"), [0, 1].map(|k| Some(by_value[k])), [0, 1].map(|k| Some(in_place[k])));
+        [by_value[0], in_place[0]]
     });
-    println!("proved, by value: a packet of the long stream costs {:.2} times one of the short stream", per_packet[1] / per_packet[0]);
+    let [short, long] = per_packet;
+    println!(
+        "\nA packet of the long stream costs {:.2} times one of the short stream by value, {:.2} times in place (proved).",
+        long[0] / short[0],
+        long[1] / short[1]
+    );
+}
+
+/// Save and resume of slaves with a notice that waits.
+fn saves(slaves: &[Slave]) {
+    let blocks: Vec<[u8; 38]> = slaves
+        .iter()
+        .map(|slave| {
+            let (mut ours, mut plain) = ([0; 38], [0; 38]);
+            assert!(vikombare::save(*slave, &mut ours) == 0 && save(slave, &mut plain).is_ok() && ours == plain, "{slave:?}");
+            ours
+        })
+        .collect();
+    let ours = |k: usize| {
+        let Slave { profile, n, site, tad, .. } = slaves[k];
+        vikombare::resume(&blocks[k], profile, n, site, tad)
+    };
+    for (k, slave) in slaves.iter().enumerate() {
+        assert!(ours(k) == Change { slave: *slave, number: 0 } && resume(&blocks[k], slave) == ours(k), "{slave:?}");
+    }
+    let (mut first, mut second) = ([0; 38], [0; 38]);
+    let saved = best(
+        ROUNDS,
+        vec![candidate("", |k| vikombare::save(slaves[k], black_box(&mut first))), candidate("", |k| save(&slaves[k], black_box(&mut second)))],
+    );
+    row("save", [Some(saved[0]), Some(saved[1])], [None; 2]);
+    let resumed = best(ROUNDS, vec![candidate("", ours), candidate("", |k| resume(&blocks[k], &slaves[k]))]);
+    row("resume", [Some(resumed[0]), Some(resumed[1])], [None; 2]);
 }

@@ -2,8 +2,9 @@
 out=target/tests
 mkdir -p "$out"
 
-# The proved code as target/staticlib/libprobe.a.
+# The proved code: what a board links as target/staticlib/libvikombare.a, and calls for tests as target/staticlib/libprobe.a.
 proved() {
+    rt staticlib vikombare
     rt staticlib probe
 }
 

@@ -2,125 +2,61 @@
 //!
 //! compare_ground [SEED [COUNT]]         random calls and sweeps; fails on a difference or on a case never reached
 //! compare_ground faults [SEED [COUNT]]  seeds each fault into the other implementation; fails if one is not found
-//! compare_ground vectors                published values, document 01's examples and packets made by hand
 
+#![allow(dead_code)] // parts of the shared modules are for other comparisons
+
+mod answers;
+mod calls;
+mod comparison;
+#[macro_use]
 #[path = "other/faults.rs"]
 mod faults;
 #[path = "other/ground.rs"]
 mod ground;
 mod inputs;
 mod probe;
-mod vectors_ground;
+#[path = "other/saved.rs"]
+mod saved;
+mod sequences;
+mod shrink;
+#[path = "other/slave.rs"]
+mod slave;
+mod vikombare;
 
+use answers::Reading;
+use calls::{Call, Lent, Said};
+use comparison::{covered, exit, found, Asked, Cases, Compared, Search};
 use faults::FAULTS;
 use ground::{Notice, A110_SECOND, DVB_SECOND};
-use inputs::{Hex, Moment, Random, WRONG_FORMS};
-use std::collections::BTreeMap;
-use std::fmt::Debug;
+use inputs::{hex, Hex, Moment, WRONG_FORMS};
+use sequences::Sequences;
 use std::process::ExitCode;
 
-const SEED: u64 = 1;
-const COUNT: u64 = 300_000;
+const COUNT: u64 = 1_000_000;
+
+/// Reading or writing keeps nothing: a difference is one call.
+const LONGEST: usize = 1;
 
 fn main() -> ExitCode {
-    let words: Vec<String> = std::env::args().skip(1).collect();
-    let (mode, numbers) = match words.first().map(String::as_str) {
-        Some(mode @ ("vectors" | "faults")) => (mode, &words[1..]),
-        _ => ("compare", &words[..]),
-    };
-    let number = |at: usize, default: u64| numbers.get(at).map_or(default, |w| w.parse().expect("SEED and COUNT are numbers"));
-    let (seed, count) = (number(0, SEED), number(1, COUNT));
-    let passed = match mode {
-        "vectors" => vectors_ground::hold(),
-        "faults" => find_faults(seed, count),
-        _ => compare(seed, count),
-    };
-    if passed {
-        ExitCode::SUCCESS
-    } else {
-        ExitCode::FAILURE
-    }
-}
-
-/// The comparison: prints what was covered, or the first difference.
-fn compare(seed: u64, count: u64) -> bool {
-    let mut comparison = Comparison::new(seed);
-    match comparison.run(count) {
-        Ok(()) => {
-            let never = comparison.report();
-            println!(
-                "compared {} calls (seed {seed}): no difference, {never} of {} required cases never reached",
-                comparison.calls,
-                comparison.seen.len()
-            );
-            never == 0
-        }
-        Err(difference) => {
-            println!("DIFFERENCE {}", difference.0);
-            false
-        }
-    }
+    let asked = Asked::read(std::env::args().skip(1), &["faults"]);
+    let (count, whole) = (asked.count(COUNT), asked.whole(COUNT));
+    exit(match asked.mode {
+        Some(_) => find_faults(asked.seed, count),
+        None => covered("calls of the ground", asked.seed, whole, required(), |comparison: &mut Sequences| comparison.run(count)),
+    })
 }
 
 /// Every fault in turn: each must make a difference.
 fn find_faults(seed: u64, count: u64) -> bool {
-    let mut missed = 0;
-    for &(fault, what) in FAULTS {
-        faults::seed(Some(fault));
-        let mut comparison = Comparison::new(seed);
-        let found = comparison.run(count).is_err();
-        faults::seed(None);
-        if found {
-            println!("found at call {:>6}: {what}", comparison.calls);
-        } else {
-            println!("NOT FOUND: {what}");
-            missed += 1;
-        }
-    }
-    println!("{} of {} seeded faults found", FAULTS.len() - missed, FAULTS.len());
+    let search = Search { by: "", cases: required, longest: LONGEST, run: &|comparison: &mut Sequences| comparison.run(count) };
+    let missed = FAULTS.iter().filter(|(fault, what)| !found(seed, *fault, what, faults::seed, &search)).count();
+    println!("{} seeded faults of the ground: {missed} not found", FAULTS.len());
     missed == 0
 }
 
-/// Where the two implementations disagree: seed, call, input and both results.
-struct Difference(String);
-
-type Compared<T = ()> = Result<T, Difference>;
-
-struct Comparison {
-    seed: u64,
-    random: Random,
-    /// Calls compared so far.
-    calls: u64,
-    /// How often each required case was reached.
-    seen: BTreeMap<(&'static str, i64), u64>,
-}
-
-fn hex(bytes: &[u8]) -> String {
-    format!("{:?}", Hex(bytes.to_vec()))
-}
-
-impl Comparison {
-    fn new(seed: u64) -> Self {
-        let seen = required().into_iter().flat_map(|(what, cases)| cases.into_iter().map(move |which| ((what, which), 0))).collect();
-        Comparison { seed, random: Random(seed), calls: 0, seen }
-    }
-
-    /// Counts a case, if it is a required one.
-    fn saw(&mut self, what: &'static str, which: impl Into<i64>) {
-        if let Some(count) = self.seen.get_mut(&(what, which.into())) {
-            *count += 1;
-        }
-    }
-
-    /// Counts a call's number, which must be one that document 01 lists for the call; 0 stands for none.
-    fn number(&mut self, call: &'static str, number: u8) -> Compared {
-        let count = self.seen.get_mut(&(call, number.into()));
-        *count.ok_or_else(|| Difference(format!("seed {} call {}: {call} gave {number}", self.seed, self.calls)))? += 1;
-        Ok(())
-    }
-
+impl Sequences {
     fn run(&mut self, count: u64) -> Compared {
-        for _ in 0..count {
+        while self.calls < count {
             self.random_call()?;
         }
         self.sweep_lengths()?;
@@ -131,84 +67,73 @@ impl Comparison {
         self.sweep_cadence()
     }
 
-    /// Counts a call and holds its two results to each other.
-    fn same<T: PartialEq + Debug>(&mut self, call: &str, input: impl FnOnce() -> String, ours: T, other: T) -> Compared<T> {
-        self.calls += 1;
-        if ours == other {
-            return Ok(ours);
-        }
-        Err(Difference(format!("seed {} call {}\n  {call}({})\n  ours  {ours:?}\n  other {other:?}", self.seed, self.calls, input())))
-    }
-
     // ---- The calls
 
-    /// A copy of the bytes at any alignment: it starts at the given place of the vector.
-    fn lend(&mut self, bytes: &[u8]) -> (Vec<u8>, usize) {
-        let at = self.random.below(16);
-        let mut lent = vec![0xA5; at];
-        lent.extend_from_slice(bytes);
-        (lent, at)
-    }
-
     fn register(&mut self, bytes: &[u8]) -> Compared {
-        let (lent, at) = self.lend(bytes);
+        let lent = Lent::new(&mut self.random, bytes);
         let other = ground::register_by_bits(bytes);
         self.same("the byte table's register", || hex(bytes), ground::register(bytes), other)?;
-        self.same("register", || hex(bytes), probe::register(&lent[at..]), other)?;
-        self.saw("register of length", bytes.len() as i64);
+        self.same("register", || hex(bytes), probe::register(lent.bytes()), other)?;
+        self.saw("register", "of length", bytes.len() as i64);
         Ok(())
     }
 
-    fn read(&mut self, packet: &[u8]) -> Compared<probe::Reading> {
-        let (lent, at) = self.lend(packet);
-        let ours = probe::read(&lent[at..]);
-        let reading = self.same("read", || hex(packet), ours, ground::read(packet).into())?;
-        self.number("read", reading.number)?;
-        self.saw("packet of length", packet.len() as i64);
+    fn read(&mut self, packet: &[u8]) -> Compared<Reading> {
+        let lent = Lent::new(&mut self.random, packet);
+        let Said::Reading(reading) = self.first(Call::Read(lent))?.said else { unreachable!("a read gives a reading") };
+        self.listed("read", "number", reading.number)?;
+        self.saw("read", "of length", packet.len() as i64);
         if reading.number == 0 {
-            self.saw("accepted with a", reading.addressing as i64);
+            self.saw("read", "accepted with a", reading.addressing as i64);
             self.write_again(packet, &reading)?;
         }
         Ok(reading)
     }
 
     /// An accepted packet, written again, is the same packet with stuffing of 0xFF.
-    fn write_again(&mut self, packet: &[u8], reading: &probe::Reading) -> Compared {
-        let &probe::Reading { continuity, pointer, periodic, reserved, sts, md, tps, addressing, .. } = reading;
-        let notice = Notice { continuity, pointer, periodic, reserved, sts, md, tps };
+    fn write_again(&mut self, packet: &[u8], reading: &Reading) -> Compared {
+        let section = 25 + reading.addressing;
         let mut expected = packet.to_vec();
-        expected[25 + addressing..].fill(0xFF);
-        let mut again = self.random.bytes(188);
-        let number = probe::write(&mut again, &notice, &packet[21..21 + addressing]);
+        expected[section..].fill(0xFF);
+        let mut again = vec![0; 188];
+        let number = vikombare::write(&mut again, &reading.notice, &packet[21..section - 4]);
         self.same("write again", || hex(packet), (number, Hex(again)), (0, Hex(expected)))?;
-        self.saw("written again", 0);
+        self.saw("write", "again what was read", 0);
         Ok(())
     }
 
-    /// A write into a buffer of this length, with guard bytes around it; every byte is compared.
+    /// A write into a buffer of this length between other bytes; every byte is compared.
     fn write(&mut self, length: usize, notice: &Notice, field: &[u8]) -> Compared {
-        let before = self.random.bytes(16 + length + 16);
-        let at = self.random.below(17);
-        let (mut ours, mut other) = (before.clone(), before.clone());
-        let by_ours = probe::write(&mut ours[at..at + length], notice, field);
-        let by_other = ground::write(&mut other[at..at + length], notice, field).err().unwrap_or(0);
-        let input = || format!("{notice:?}, field of {}, buffer {}", hex(field), hex(&before[at..at + length]));
-        let (number, after) = self.same("write", input, (by_ours, Hex(ours)), (by_other, Hex(other)))?;
+        let before = self.random.bytes(length);
+        let out = Lent::between(&mut self.random, &before);
+        let kept = out.room();
+        let Said::Written(number, after) = self.first(Call::Write { out, notice: *notice, field: field.to_vec() })?.said else {
+            unreachable!("a write gives bytes")
+        };
         if number != 0 {
-            self.same("write, refused", || hex(&before), after, Hex(before.clone()))?;
+            self.same("write, refused", || hex(&before), after, kept)?;
         }
-        self.number("write", number)?;
-        self.saw("buffer of length", length as i64);
+        self.listed("write", "number", number)?;
+        self.saw("write", "into a buffer of length", length as i64);
+        match number {
+            0 => self.saw("write", "accepted with a", field.len() as i64),
+            8 => self.saw("write", "8 with a", field.len() as i64),
+            11 => self.saw("write", "11 for STS (1), MD (2)", i64::from(notice.sts >= DVB_SECOND) + 2 * i64::from(notice.md >= DVB_SECOND)),
+            19 => {
+                self.saw("write", "19 for continuity (1), reserved (2)", i64::from(notice.continuity > 15) + 2 * i64::from(notice.reserved > 32_767))
+            }
+            _ => {}
+        }
         Ok(())
     }
 
     fn settings(&mut self, field: &[u8], site: u16, before: ground::Settings) -> Compared<u8> {
-        let (lent, at) = self.lend(field);
-        let ours = probe::settings(&lent[at..], site, before);
+        let lent = Lent::new(&mut self.random, field);
+        let ours = probe::settings(lent.bytes(), site, before);
         let input = || format!("site {site}, {before:?}, field of {}", hex(field));
         let number = self.same("settings", input, ours, ground::settings(field, site, before).into())?.number;
-        self.number("settings", number)?;
-        self.saw("field of length", field.len() as i64);
+        self.listed("settings", "number", number)?;
+        self.saw("settings", "of length", field.len() as i64);
         Ok(number)
     }
 
@@ -216,10 +141,10 @@ impl Comparison {
         let other = ground::dvb_release(m.sts, m.md, m.od, m.tad, m.arrival);
         let ours = probe::dvb_release(m.sts, m.md, m.od, m.tad, m.arrival);
         let times = self.same("DVB release", || format!("{m:?}"), ours, other.into())?;
-        self.number("DVB release", times.number)?;
-        self.saw_limits(DVB_CASES, DVB_SECOND, m, times);
+        self.listed("DVB release", "number", times.number)?;
+        self.saw_limits("DVB release", DVB_SECOND, m, times);
         let fits = self.same("DVB delay fits", || format!("{m:?}"), probe::dvb_delay_fits(m.md, m.od), ground::dvb_delay_fits(m.md, m.od))?;
-        self.saw("DVB delay fits", fits);
+        self.saw("DVB release", "delay fits", fits);
         Ok(())
     }
 
@@ -227,35 +152,35 @@ impl Comparison {
         let other = ground::a110_release(m.sts, m.md, m.od, m.tad, m.arrival);
         let ours = probe::a110_release(m.sts, m.md, m.od, m.tad, m.arrival);
         let times = self.same("A/110 release", || format!("{m:?}"), ours, other.into())?;
-        self.number("A/110 release", times.number)?;
-        self.saw_limits(A110_CASES, A110_SECOND, m, times);
+        self.listed("A/110 release", "number", times.number)?;
+        self.saw_limits("A/110 release", A110_SECOND, m, times);
         let fits = self.same(
             "A/110 delay fits",
             || format!("{m:?}"),
             probe::a110_delay_fits(m.md, m.od, m.tad),
             ground::a110_delay_fits(m.md, m.od, m.tad),
         )?;
-        self.saw("A/110 delay fits", fits);
+        self.saw("A/110 release", "delay fits", fits);
         Ok(())
     }
 
     /// Which sums of a release fell on a limit or beside it, among the releases that got so far.
-    fn saw_limits(&mut self, cases: TimeCases, second: u32, m: Moment, times: probe::Times) {
+    fn saw_limits(&mut self, whose: &'static str, second: u32, m: Moment, times: probe::Times) {
         let [u, sts, md, tad, arrival] = [second, m.sts, m.md, m.tad, m.arrival].map(i64::from);
         let od = i64::from(m.od);
         if [0, 13, 14].contains(&times.number) {
-            self.saw(cases.delay, md + od);
-            self.saw(cases.delay_and_tad, md + od + tad);
+            self.saw(whose, "MD + OD", md + od);
+            self.saw(whose, "MD + OD + TAD", md + od + tad);
         }
         if [0, 14].contains(&times.number) {
-            self.saw(cases.wait, md + od - tad - (arrival - sts).rem_euclid(u));
+            self.saw(whose, "wait", md + od - tad - (arrival - sts).rem_euclid(u));
         }
         if times.number == 0 {
-            self.saw(cases.reference, sts + md);
-            self.saw(cases.emission, sts + md + od);
-            self.saw(cases.od, od);
-            self.saw(cases.modulation, times.modulation);
-            self.saw(cases.tad, tad);
+            self.saw(whose, "released, STS + MD", sts + md);
+            self.saw(whose, "released, STS + MD + OD", sts + md + od);
+            self.saw(whose, "released, OD", od);
+            self.saw(whose, "released, modulation", times.modulation);
+            self.saw(whose, "released, TAD", tad);
         }
     }
 
@@ -263,14 +188,14 @@ impl Comparison {
         let ours = probe::admits(profile, n);
         let admitted = self.same("admits", || format!("profile {profile}, n {n}"), ours, ground::admits(profile, n))?;
         if admitted {
-            self.saw(["profile 0 admits", "profile 1 admits"][usize::from(profile)], n);
+            self.saw("cadence", ["n in profile 0", "n in profile 1"][usize::from(profile)], n);
         }
         Ok(())
     }
 
     fn label(&mut self, n: u16, pointer: u16) -> Compared {
         let label = self.same("label", || format!("n {n}, pointer {pointer}"), probe::label(n, pointer), ground::label(n, pointer).into())?;
-        self.number("label", label.number)
+        self.listed("label", "number", label.number)
     }
 
     fn place(&mut self, i: u8, p: u16) -> Compared {
@@ -326,7 +251,7 @@ impl Comparison {
                 if kind < WRONG_FORMS.len() {
                     let field = inputs::wrong_field(r, site, kind);
                     let number = self.settings(&field, site, before)?;
-                    self.saw(WRONG_FORMS[kind], number);
+                    self.saw("settings", WRONG_FORMS[kind], number);
                 } else {
                     let limit = r.pick(&[20, 60, 163, 300]);
                     let field = inputs::field(r, site, limit);
@@ -365,15 +290,15 @@ impl Comparison {
         while at < field.len() {
             let identifier = u16::from_be_bytes([field[at], field[at + 1]]);
             let end = at + 3 + usize::from(field[at + 2]);
-            self.saw("entry for another (0), this site (1) or all (2)", if identifier == 0 { 2 } else { i64::from(identifier == site) });
+            self.saw("settings", "entry for another (0), this site (1) or all (2)", if identifier == 0 { 2 } else { i64::from(identifier == site) });
             if end == at + 3 {
-                self.saw("empty loop", 0);
+                self.saw("settings", "empty loop", 0);
             }
             at += 3;
             while at < end {
-                self.saw("function with tag", field[at]);
+                self.saw("settings", "function with tag", field[at]);
                 if field[at] >= 3 && field[at + 1] == 2 {
-                    self.saw("function with no body", 2);
+                    self.saw("settings", "function with no body", 2);
                 }
                 at += usize::from(field[at + 1]);
             }
@@ -418,7 +343,7 @@ impl Comparison {
             packet[at] ^= bit;
             inputs::reseal(&mut packet);
             let number = self.read(&packet)?.number;
-            self.saw("header byte and bit refused with 6", if number == 6 { at as i64 * 256 + i64::from(bit) } else { 0 });
+            self.saw("read", "header byte and bit refused with 6", if number == 6 { at as i64 * 256 + i64::from(bit) } else { 0 });
         }
         for a in 0..=255 {
             for off in 0..=255 {
@@ -428,7 +353,7 @@ impl Comparison {
                 inputs::reseal(&mut packet);
                 let number = self.read(&packet)?.number;
                 if a > 163 && off == 19 {
-                    self.saw("a above 163 with its section length", number);
+                    self.saw("read", "a above 163 with its section length", number);
                 }
             }
         }
@@ -442,7 +367,7 @@ impl Comparison {
             let mut packet = inputs::packet(&mut self.random, 7);
             inputs::leave(&mut packet, residue);
             let number = self.read(&packet)?.number;
-            self.saw("register left at other than zero", number);
+            self.saw("read", "register left at other than zero", number);
         }
         Ok(())
     }
@@ -458,10 +383,10 @@ impl Comparison {
                 let flipped = self.read(&packet)?;
                 if bit < 8 * section {
                     self.same("read, a bit flipped", || hex(&packet), flipped.number != 0, true)?;
-                    self.saw("bit of the section flipped", 0);
+                    self.saw("read", "bit of the section flipped", bit as i64);
                 } else {
                     self.same("read, a stuffing bit flipped", || hex(&packet), flipped, whole)?;
-                    self.saw("bit of the stuffing flipped", 0);
+                    self.saw("read", "bit of the stuffing flipped", bit as i64);
                 }
                 packet[bit / 8] ^= 1 << (bit % 8);
             }
@@ -503,115 +428,58 @@ impl Comparison {
         }
         Ok(())
     }
-
-    // ---- What was covered
-
-    /// Prints how often each required case was reached, and counts those that were not.
-    fn report(&self) -> usize {
-        let mut never = 0;
-        for (what, cases) in required() {
-            let counts: Vec<u64> = cases.iter().map(|&which| self.seen[&(what, which)]).collect();
-            if cases.len() > 16 {
-                println!(
-                    "{what} {} to {}: {} cases, each at least {} times",
-                    cases[0],
-                    cases[cases.len() - 1],
-                    cases.len(),
-                    counts.iter().min().unwrap_or(&0)
-                );
-            } else {
-                println!("{what}: {}", cases.iter().zip(&counts).map(|(which, count)| format!("{which} ×{count}")).collect::<Vec<_>>().join(", "));
-            }
-            for (which, _) in cases.iter().zip(&counts).filter(|(_, &count)| count == 0) {
-                println!("NEVER REACHED: {what} {which}");
-                never += 1;
-            }
-        }
-        never
-    }
 }
 
 fn pairs(list: &[u32]) -> impl Iterator<Item = (u32, u32)> + '_ {
     list.iter().flat_map(|&x| list.iter().map(move |&y| (x, y)))
 }
 
-/// The names under which one profile's sums are counted.
-#[derive(Clone, Copy)]
-struct TimeCases {
-    delay: &'static str,
-    delay_and_tad: &'static str,
-    wait: &'static str,
-    reference: &'static str,
-    emission: &'static str,
-    modulation: &'static str,
-    od: &'static str,
-    tad: &'static str,
-}
+// ---- What must be reached
 
-const DVB_CASES: TimeCases = TimeCases {
-    delay: "DVB, MD + OD",
-    delay_and_tad: "DVB, MD + OD + TAD",
-    wait: "DVB, wait",
-    reference: "DVB released, STS + MD",
-    emission: "DVB released, STS + MD + OD",
-    modulation: "DVB released, modulation",
-    od: "DVB released, OD",
-    tad: "DVB released, TAD",
-};
-
-const A110_CASES: TimeCases = TimeCases {
-    delay: "A/110, MD + OD",
-    delay_and_tad: "A/110, MD + OD + TAD",
-    wait: "A/110, wait",
-    reference: "A/110 released, STS + MD",
-    emission: "A/110 released, STS + MD + OD",
-    modulation: "A/110 released, modulation",
-    od: "A/110 released, OD",
-    tad: "A/110 released, TAD",
-};
-
-/// The cases that a run must reach.
-fn required() -> Vec<(&'static str, Vec<i64>)> {
+fn required() -> Cases {
     let lengths: Vec<i64> = (0..=300).collect();
+    let field_lengths: Vec<i64> = (0..=163).filter(|a| ![1, 2, 4].contains(a)).collect();
     let mut list = vec![
-        ("read", vec![0, 1, 2, 4, 5, 6, 7, 8, 9, 10, 11]),
-        ("write", vec![0, 18, 19, 8, 10, 11]),
-        ("settings", vec![0, 10]),
-        ("DVB release", vec![0, 15, 3, 11, 13, 14]),
-        ("A/110 release", vec![0, 15, 3, 11, 13, 14]),
-        ("DVB delay fits", vec![0, 1]),
-        ("A/110 delay fits", vec![0, 1]),
-        ("label", vec![0, 12]),
-        ("profile 0 admits", ground::dvb_cadences().map(i64::from).collect()),
-        ("profile 1 admits", vec![624]),
-        ("register of length", lengths.clone()),
-        ("packet of length", lengths.clone()),
-        ("buffer of length", lengths.clone()),
-        ("field of length", lengths),
-        ("accepted with a", (0..=163).filter(|a| ![1, 2, 4].contains(a)).collect()),
-        ("written again", vec![0]),
-        ("register left at other than zero", vec![9]),
-        ("bit of the section flipped", vec![0]),
-        ("bit of the stuffing flipped", vec![0]),
-        ("header byte and bit refused with 6", vec![0x140, 0x120, 0x380, 0x340, 0x320, 0x310]),
-        ("a above 163 with its section length", vec![8]),
-        ("function with tag", vec![0, 1, 2, 3, 4, 5, 127, 128, 255]),
-        ("function with no body", vec![2]),
-        ("empty loop", vec![0]),
-        ("entry for another (0), this site (1) or all (2)", vec![0, 1, 2]),
+        ("read", "number", vec![0, 1, 2, 4, 5, 6, 7, 8, 9, 10, 11]),
+        ("read", "of length", lengths.clone()),
+        ("read", "accepted with a", field_lengths.clone()),
+        ("read", "register left at other than zero", vec![9]),
+        ("read", "bit of the section flipped", (0..8 * 188).collect()),
+        ("read", "bit of the stuffing flipped", (8 * 25..8 * 188).collect()),
+        ("read", "header byte and bit refused with 6", vec![0x140, 0x120, 0x380, 0x340, 0x320, 0x310]),
+        ("read", "a above 163 with its section length", vec![8]),
+        ("write", "number", vec![0, 18, 19, 8, 10, 11]),
+        ("write", "into a buffer of length", lengths.clone()),
+        ("write", "accepted with a", field_lengths),
+        ("write", "8 with a", (164..=300).collect()),
+        ("write", "11 for STS (1), MD (2)", vec![1, 2, 3]),
+        ("write", "19 for continuity (1), reserved (2)", vec![1, 2, 3]),
+        ("write", "again what was read", vec![0]),
+        ("settings", "number", vec![0, 10]),
+        ("settings", "of length", lengths.clone()),
+        ("settings", "function with tag", vec![0, 1, 2, 3, 4, 5, 127, 128, 255]),
+        ("settings", "function with no body", vec![2]),
+        ("settings", "empty loop", vec![0]),
+        ("settings", "entry for another (0), this site (1) or all (2)", vec![0, 1, 2]),
+        ("label", "number", vec![0, 12]),
+        ("cadence", "n in profile 0", ground::dvb_cadences().map(i64::from).collect()),
+        ("cadence", "n in profile 1", vec![624]),
+        ("register", "of length", lengths),
     ];
-    list.extend(WRONG_FORMS.map(|what| (what, vec![10])));
-    for (cases, second) in [(DVB_CASES, DVB_SECOND), (A110_CASES, A110_SECOND)] {
+    list.extend(WRONG_FORMS.map(|what| ("settings", what, vec![10])));
+    for (whose, second) in [("DVB release", DVB_SECOND), ("A/110 release", A110_SECOND)] {
         let u = i64::from(second);
         list.extend([
-            (cases.delay, vec![-1, 0, u - 1, u]),
-            (cases.delay_and_tad, vec![0, 1, u - 1, u]),
-            (cases.wait, vec![-1, 0, 1]),
-            (cases.reference, vec![u - 1, u, u + 1]),
-            (cases.emission, vec![u - 1, u, u + 1]),
-            (cases.modulation, vec![0, u - 1, u]),
-            (cases.od, vec![-32_768, -1, 0, 32_767]),
-            (cases.tad, vec![0, 1]),
+            (whose, "number", vec![0, 15, 3, 11, 13, 14]),
+            (whose, "delay fits", vec![0, 1]),
+            (whose, "MD + OD", vec![-1, 0, u - 1, u]),
+            (whose, "MD + OD + TAD", vec![0, 1, u - 1, u]),
+            (whose, "wait", vec![-1, 0, 1]),
+            (whose, "released, STS + MD", vec![u - 1, u, u + 1]),
+            (whose, "released, STS + MD + OD", vec![u - 1, u, u + 1]),
+            (whose, "released, modulation", vec![0, u - 1, u]),
+            (whose, "released, OD", vec![-32_768, -1, 0, 32_767]),
+            (whose, "released, TAD", vec![0, 1]),
         ]);
     }
     list

@@ -5,6 +5,7 @@
 
 #![allow(dead_code)] // parts of the shared modules are for other comparisons alone
 
+mod comparison;
 #[macro_use]
 #[path = "other/faults.rs"]
 mod faults;
@@ -16,37 +17,34 @@ mod log;
 #[path = "other/slave.rs"]
 mod slave;
 
+use comparison::{covered, exit, Asked, Cases, Compared, Comparison};
 use ground::Notice;
 use inputs::Random;
 use log::faults::{seed, FAULTS};
 use log::SETTINGS;
-use std::collections::BTreeMap;
 use std::io::{Read, Write};
 use std::os::fd::{AsRawFd, RawFd};
 use std::process::{ChildStdin, Command, ExitCode, Stdio};
 
-const SEED: u64 = 1;
 const COUNT: u64 = 2_000;
 const FAULT_COUNT: u64 = 300;
 /// A capture takes a process and its pipes.
 const MOST: u64 = 20_000;
 
 fn main() -> ExitCode {
-    let words: Vec<String> = std::env::args().skip(1).collect();
-    let Some((program, words)) = words.split_first() else {
+    let mut words = std::env::args().skip(1);
+    let Some(program) = words.next() else {
         eprintln!("usage: compare_log PROGRAM [faults] [SEED [COUNT]]");
         return ExitCode::FAILURE;
     };
-    let find = words.first().is_some_and(|w| w == "faults");
-    let numbers = &words[usize::from(find)..];
-    let number = |at: usize, default: u64| numbers.get(at).map_or(default, |w| w.parse().expect("SEED and COUNT are numbers"));
-    let (from, count) = (number(0, SEED), number(1, if find { FAULT_COUNT } else { COUNT }).clamp(1, MOST));
-    let passed = if find { find_faults(program, from, count) } else { compare(program, from, count) };
-    if passed {
-        ExitCode::SUCCESS
-    } else {
-        ExitCode::FAILURE
-    }
+    let asked = Asked::read(words, &["faults"]);
+    exit(match asked.mode {
+        Some(_) => find_faults(&program, asked.seed, asked.count(FAULT_COUNT).min(MOST)),
+        None => {
+            let count = asked.count(COUNT).min(MOST);
+            covered("captures", asked.seed, asked.whole(COUNT), cases(), |comparison| compare(comparison, &program, count))
+        }
+    })
 }
 
 // ---- Captures
@@ -108,7 +106,12 @@ fn capture(r: &mut Random) -> Vec<u8> {
                     (sts, md) = (r.below(10_000_000) as u32, r.below(900_000) as u32);
                 }
                 let pointer = if r.one_in(10) { r.below(usize::from(n)) as u16 } else { n - 1 - label };
-                let field = if r.one_in(2) { Vec::new() } else { inputs::field(r, site, 60) };
+                // an offset of −51 for all: too much for an MD of 50
+                let (field, md) = match r.below(24) {
+                    0 => (vec![0, 0, 4, 0, 4, 0xFF, 0xCD], 50),
+                    1..=12 => (Vec::new(), md),
+                    _ => (inputs::field(r, site, 60), md),
+                };
                 let mut packet = inputs::packet_of(&Notice { pointer, sts, md, ..inputs::notice(r) }, &field);
                 if r.one_in(12) {
                     packet[24] ^= 1;
@@ -218,53 +221,47 @@ fn run(program: &str, capture: &[u8], delivery: Delivery, r: &mut Random) -> Vec
 
 // ---- Comparing
 
-/// The kinds of lines and words that must be printed.
-const KINDS: &[&str] = &[
-    "refused alone",
-    "no record",
-    "none",
-    "taken",
-    "slip",
-    "ignored",
-    "ignored hunting",
-    "untimed",
-    "late",
-    "emission",
-    "refused 1",
-    "refused 2",
-    "refused 3",
-    "over 1,024",
-];
+/// What must be printed: refusals, and each kind of notice and of mark.
+fn cases() -> Cases {
+    vec![
+        ("log", "refused alone with", vec![15]),
+        ("log", "record refused with", vec![1, 2, 3]),
+        ("log", "of no record (0), of more than 1,024 (1)", vec![0, 1]),
+        ("log", "notice none (0), taken (1), slip (2)", vec![0, 1, 2]),
+        ("log", "hunting, ignored with", vec![4, 6, 7, 8, 9, 10, 11, 12, 13]),
+        ("log", "locked, ignored with", vec![4, 6, 7, 8, 9, 10, 11, 12, 13]),
+        ("log", "mark none (0), untimed (1), late (2), emission (3)", vec![0, 1, 2, 3]),
+    ]
+}
 
-fn kinds(printed: &[u8], mut saw: impl FnMut(&'static str)) {
+/// Counts what a log has.
+fn kinds(printed: &[u8], mut saw: impl FnMut(&'static str, i64)) {
     let text = String::from_utf8_lossy(printed);
     if text == "refused 15\n" {
-        return saw("refused alone");
+        return saw("refused alone with", 15);
     }
     let lines: Vec<&str> = text.lines().collect();
     if lines.len() == 2 {
-        saw("no record");
+        saw("of no record (0), of more than 1,024 (1)", 0);
     }
     if lines.len() > 1_026 {
-        saw("over 1,024");
+        saw("of no record (0), of more than 1,024 (1)", 1);
     }
     for line in &lines[1..lines.len() - 1] {
         match line.split(' ').collect::<Vec<_>>()[1..] {
-            ["refused", k @ ("1" | "2" | "3")] => saw(["refused 1", "refused 2", "refused 3"][k.parse::<usize>().unwrap() - 1]),
+            ["refused", number] => saw("record refused with", number.parse().unwrap_or(0)),
             [label, notice, mark] => {
-                saw(match (label, notice) {
-                    (_, "-") => "none",
-                    (_, "taken") => "taken",
-                    (_, "slip") => "slip",
-                    ("-", _) => "ignored hunting",
-                    _ => "ignored",
-                });
-                match mark {
-                    "-" => {}
-                    "untimed" => saw("untimed"),
-                    "late" => saw("late"),
-                    _ => saw("emission"),
+                let taken = "notice none (0), taken (1), slip (2)";
+                match notice {
+                    "-" => saw(taken, 0),
+                    "taken" => saw(taken, 1),
+                    "slip" => saw(taken, 2),
+                    number => saw(if label == "-" { "hunting, ignored with" } else { "locked, ignored with" }, number.parse().unwrap_or(0)),
                 }
+                saw(
+                    "mark none (0), untimed (1), late (2), emission (3)",
+                    ["-", "untimed", "late"].iter().position(|kind| *kind == mark).unwrap_or(3) as i64,
+                );
             }
             _ => {}
         }
@@ -281,45 +278,29 @@ fn delivery(r: &mut Random, length: usize) -> Delivery {
     }
 }
 
-fn compare(program: &str, from: u64, count: u64) -> bool {
-    let mut r = Random(from.wrapping_mul(2).wrapping_add(1));
-    let mut seen: BTreeMap<&str, u64> = KINDS.iter().map(|k| (*k, 0)).collect();
-    let mut bytes = 0;
-    for number in 0..count {
-        let capture = capture(&mut r);
-        let how = delivery(&mut r, capture.len());
-        let (ours, other) = (run(program, &capture, how, &mut r), log::log(&capture));
+fn compare(comparison: &mut Comparison, program: &str, count: u64) -> Compared {
+    while comparison.calls < count {
+        comparison.calls += 1;
+        let r = &mut comparison.random;
+        let capture = capture(r);
+        let how = delivery(r, capture.len());
+        let (ours, other) = (run(program, &capture, how, r), log::log(&capture));
         if ours != other {
             let file = "target/tests/compare_log.bin";
             std::fs::write(file, &capture).expect("the capture is kept");
             let at = ours.iter().zip(&other).take_while(|(a, b)| a == b).count();
             let line = other[..at].iter().filter(|b| **b == b'\n').count();
             let show = |text: &[u8]| String::from_utf8_lossy(text).lines().nth(line).unwrap_or("").to_string();
-            println!(
-                "compare_log: seed {from}, capture {number} ({file}), {how:?}: line {line} is {:?}, the other has {:?}",
-                show(&ours),
-                show(&other)
-            );
-            return false;
+            return Err(comparison.differs(format!("{file}, {how:?}: line {line} is {:?}, the other has {:?}", show(&ours), show(&other))));
         }
-        kinds(&ours, |k| *seen.get_mut(k).unwrap() += 1);
-        bytes += capture.len();
+        kinds(&ours, |what, value| comparison.saw("log", what, value));
     }
-    for (kind, times) in &seen {
-        println!("{kind}: {times}");
-    }
-    let missing: Vec<_> = seen.iter().filter(|(_, times)| **times == 0).map(|(k, _)| *k).collect();
-    if !missing.is_empty() && count >= COUNT {
-        println!("compare_log: never printed: {}", missing.join(", "));
-        return false;
-    }
-    println!("compare_log: {count} captures, {bytes} bytes, the same output (seed {from})");
-    true
+    Ok(())
 }
 
 /// The program's output is taken once; each fault must make the other's differ somewhere.
 fn find_faults(program: &str, from: u64, count: u64) -> bool {
-    let mut r = Random(from.wrapping_mul(2).wrapping_add(1));
+    let mut r = Random(from);
     let printed: Vec<_> = (0..count)
         .map(|_| {
             let capture = capture(&mut r);
@@ -329,18 +310,18 @@ fn find_faults(program: &str, from: u64, count: u64) -> bool {
         .collect();
     let differs = || printed.iter().any(|(capture, ours)| log::log(capture) != *ours);
     if differs() {
-        println!("compare_log: a difference without a fault");
+        println!("a difference without a fault");
         return false;
     }
     let mut missed = 0;
     for (fault, what) in FAULTS {
         seed(Some(*fault));
         if !differs() {
-            println!("compare_log: not found: {what}");
+            println!("NOT FOUND: {what}");
             missed += 1;
         }
         seed(None);
     }
-    println!("compare_log: {} of {} faults found", FAULTS.len() - missed, FAULTS.len());
+    println!("{} seeded faults of the log: {missed} not found", FAULTS.len());
     missed == 0
 }

@@ -3,15 +3,30 @@
 use crate::ground::{self, Notice};
 use std::fmt;
 
-/// Bytes that print in hexadecimal.
+/// Bytes that print in hexadecimal, a long run of one byte as the byte and its number.
 #[derive(Clone, PartialEq)]
 pub struct Hex(pub Vec<u8>);
 
 impl fmt::Debug for Hex {
     fn fmt(&self, f: &mut fmt::Formatter) -> fmt::Result {
-        write!(f, "{} bytes ", self.0.len())?;
-        self.0.iter().try_for_each(|byte| write!(f, "{byte:02X}"))
+        write!(f, "{} bytes", self.0.len())?;
+        let mut apart = " ";
+        for run in self.0.chunk_by(|one, next| one == next) {
+            if run.len() > 8 {
+                write!(f, " {:02X} ×{}", run[0], run.len())?;
+                apart = " ";
+            } else {
+                write!(f, "{apart}")?;
+                run.iter().try_for_each(|byte| write!(f, "{byte:02X}"))?;
+                apart = "";
+            }
+        }
+        Ok(())
     }
+}
+
+pub fn hex(bytes: &[u8]) -> String {
+    format!("{:?}", Hex(bytes.to_vec()))
 }
 
 /// splitmix64.
@@ -235,6 +250,13 @@ pub fn packet(r: &mut Random, site: u16) -> Vec<u8> {
 pub fn packet_of(notice: &Notice, field: &[u8]) -> Vec<u8> {
     let mut packet = vec![0; 188];
     let _ = ground::write(&mut packet, notice, field);
+    packet
+}
+
+/// A null packet.
+pub fn null() -> Vec<u8> {
+    let mut packet = vec![0xFF; 188];
+    packet[..4].copy_from_slice(&[0x47, 0x1F, 0xFF, 0x10]);
     packet
 }
 

@@ -1,4 +1,4 @@
-//! Measuring: plain check registers, and tables of nanoseconds a call and ratios.
+//! Measuring: plain check registers, and tables of nanoseconds a call and ratios, as docs/SPEED.md has them.
 
 use crate::inputs::Random;
 use std::hint::black_box;
@@ -98,17 +98,23 @@ pub fn candidate<'a, T>(name: &'a str, mut call: impl FnMut(usize) -> T + 'a) ->
     (name, Box::new(round))
 }
 
-/// One call's rows: the first candidate is the proved code, the others are what it is held to. Gives the proved code's figure.
-pub fn table(what: &str, rounds: usize, mut candidates: Vec<Candidate>) -> f64 {
+/// The best round of each candidate, in nanoseconds a call.
+pub fn best(rounds: usize, mut candidates: Vec<Candidate>) -> Vec<f64> {
     let mut best = vec![f64::INFINITY; candidates.len()];
     for _ in 0..rounds {
         for (best, (_, round)) in best.iter_mut().zip(&mut candidates) {
             *best = best.min(round());
         }
     }
-    for (k, (name, _)) in candidates.iter().enumerate().skip(1) {
-        let what = if k == 1 { what } else { "" };
-        println!("{what:<44} {:>8.1} {:>8.1}   {:>5.2}  {name}", best[0], best[k], best[0] / best[k]);
+    best
+}
+
+/// One call's rows: the first candidate is the proved code, the others are what it is held to.
+pub fn table(what: &str, candidates: Vec<Candidate>) {
+    let names: Vec<&str> = candidates.iter().map(|(name, _)| *name).collect();
+    let best = best(ROUNDS, candidates);
+    for (k, (plain, name)) in best.iter().zip(names).enumerate().skip(1) {
+        let (what, proved) = if k == 1 { (what, format!("{:.1}", best[0])) } else { ("", String::new()) };
+        println!("| {what} | {proved} | {plain:.1} | {:.2} | {name} |", best[0] / plain);
     }
-    best[0]
 }

@@ -1,21 +1,9 @@
 //! The proved code's calls, as crate `probe` exports them, and the other implementation's results in the same flat form.
 //! A slice is passed as its address and its length. A refused call has its number and zeros.
 
+use crate::answers::{Answer, Step};
 use crate::ground;
-
-#[repr(C)]
-#[derive(Clone, Copy, Debug, Default, PartialEq)]
-pub struct Reading {
-    pub number: u8,
-    pub continuity: u8,
-    pub pointer: u16,
-    pub periodic: bool,
-    pub reserved: u16,
-    pub sts: u32,
-    pub md: u32,
-    pub tps: u32,
-    pub addressing: usize,
-}
+use crate::slave::Slave;
 
 #[repr(C)]
 #[derive(Clone, Copy, Debug, Default, PartialEq)]
@@ -43,23 +31,42 @@ pub struct Label {
     pub value: u16,
 }
 
+/// A mark: 0 none, 1 untimed, 2 late, 3 released in profile 0, 4 released in profile 1; then its times.
+#[repr(C)]
+#[derive(Clone, Copy, Debug, Default, PartialEq)]
+pub struct Mark {
+    pub kind: u8,
+    pub reference: u32,
+    pub emission: u32,
+    pub modulation: u32,
+    pub wait: i64,
+}
+
+/// The reply to a packet; see `answers::Answer`.
+#[repr(C)]
+#[derive(Clone, Copy, Debug, Default, PartialEq)]
+pub struct Reply {
+    pub number: u8,
+    pub has_label: bool,
+    pub label: u16,
+    pub notice: u8,
+    pub ignored: u8,
+    pub turn: bool,
+    pub mark: Mark,
+    pub has_place: bool,
+    pub place: u16,
+}
+
+#[repr(C)]
+#[derive(Clone, Copy, Debug, PartialEq)]
+pub struct Stepped {
+    pub slave: Slave,
+    pub reply: Reply,
+}
+
 #[link(name = "probe", kind = "static")]
 extern "C" {
     fn probe_register(s: *const u8, length: usize) -> u32;
-    fn probe_read(p: *const u8, length: usize) -> Reading;
-    fn probe_write(
-        out: *mut u8,
-        out_length: usize,
-        continuity: u8,
-        pointer: u16,
-        periodic: bool,
-        reserved: u16,
-        sts: u32,
-        md: u32,
-        tps: u32,
-        field: *const u8,
-        length: usize,
-    ) -> u8;
     fn probe_settings(field: *const u8, length: usize, site: u16, od: i16, frequency: i32, power: u16) -> Settings;
     fn probe_dvb_release(sts: u32, md: u32, od: i16, tad: u32, arrival: u32) -> Times;
     fn probe_a110_release(sts: u32, md: u32, od: i16, tad: u32, arrival: u32) -> Times;
@@ -68,22 +75,13 @@ extern "C" {
     fn probe_admits(profile: u8, n: u16) -> bool;
     fn probe_label(n: u16, pointer: u16) -> Label;
     fn probe_mobile_place(i: u8, p: u16) -> u16;
+    fn probe_packet(slave: Slave, p: *const u8, length: usize, tick: u32) -> Stepped;
 }
 
 // No exported call has a condition on its arguments, so each is safe to call.
 
 pub fn register(s: &[u8]) -> u32 {
     unsafe { probe_register(s.as_ptr(), s.len()) }
-}
-
-pub fn read(p: &[u8]) -> Reading {
-    unsafe { probe_read(p.as_ptr(), p.len()) }
-}
-
-pub fn write(out: &mut [u8], n: &ground::Notice, field: &[u8]) -> u8 {
-    unsafe {
-        probe_write(out.as_mut_ptr(), out.len(), n.continuity, n.pointer, n.periodic, n.reserved, n.sts, n.md, n.tps, field.as_ptr(), field.len())
-    }
 }
 
 pub fn settings(field: &[u8], site: u16, before: ground::Settings) -> Settings {
@@ -118,26 +116,23 @@ pub fn mobile_place(i: u8, p: u16) -> u16 {
     unsafe { probe_mobile_place(i, p) }
 }
 
-// The other implementation's results in the same form.
-
-impl From<Result<(ground::Notice, &[u8]), u8>> for Reading {
-    fn from(result: Result<(ground::Notice, &[u8]), u8>) -> Self {
-        match result {
-            Ok((n, field)) => Reading {
-                number: 0,
-                continuity: n.continuity,
-                pointer: n.pointer,
-                periodic: n.periodic,
-                reserved: n.reserved,
-                sts: n.sts,
-                md: n.md,
-                tps: n.tps,
-                addressing: field.len(),
-            },
-            Err(number) => Reading { number, ..Default::default() },
-        }
-    }
+/// A packet by value, as the call gives it back.
+#[inline(always)]
+pub fn stepped(slave: Slave, p: &[u8], tick: u32) -> Stepped {
+    unsafe { probe_packet(slave, p.as_ptr(), p.len(), tick) }
 }
+
+/// A packet by value. A release of the other profile has no flat form: it shows as its own kind of mark.
+pub fn packet(slave: Slave, p: &[u8], tick: u32) -> Step {
+    let Stepped { slave, reply } = stepped(slave, p, tick);
+    let Reply { number, has_label, label, notice, ignored, turn, mark, has_place, place } = reply;
+    let Mark { kind, reference, emission, modulation, wait } = mark;
+    let mark = if kind == 3 + slave.profile { 3 } else { kind + u8::from(kind == 3) };
+    let times = ground::Times { reference, emission, modulation, wait };
+    Step { slave, answer: Answer { number, has_label, label, notice, ignored, turn, mark, times, has_place, place } }
+}
+
+// The other implementation's results in the same form.
 
 impl From<Result<ground::Settings, u8>> for Settings {
     fn from(result: Result<ground::Settings, u8>) -> Self {

@@ -56,7 +56,7 @@ pub fn register(bytes: &[u8]) -> u32 {
 
 // ---- The MIP (TS 101 191, clause 6, table 1; 01, "The MIP, 188 bytes, big-endian")
 
-#[derive(Clone, Copy, Debug, PartialEq)]
+#[derive(Clone, Copy, Debug, Default, PartialEq)]
 pub struct Notice {
     pub continuity: u8,
     pub pointer: u16,
@@ -206,7 +206,7 @@ fn apply(mut functions: &[u8], mut settings: Settings) -> Result<Settings, u8> {
 
 // ---- Times (01, "Release" and numbers 3, 11, 13, 14, 15)
 
-#[derive(Clone, Copy, Debug, PartialEq)]
+#[derive(Clone, Copy, Debug, Default, PartialEq)]
 pub struct Times {
     pub reference: u32,
     pub emission: u32,

@@ -23,6 +23,7 @@ pub mod faults {
         TickOfASecond: "an arrival tick of U is accepted",
         TickByOtherClock: "in profile 1 the tick is judged by profile 0's second",
         HuntingTickUnjudged: "a hunting slave's tick is not judged",
+        ForeignTickTaken: "a tick of the other profile's clock is taken for the slave's own",
         ErrorAfterPid: "4 is judged for PID 0x15 alone",
         A110ReadsMip: "in profile 1 the packet call takes a MIP",
         ErrorBeforeProfile: "in a numbers notice 4 is judged before 20",
@@ -117,7 +118,7 @@ pub enum MarkPart {
 }
 
 /// What a numbers notice gives.
-#[derive(Clone, Copy, Debug)]
+#[derive(Clone, Copy, Debug, PartialEq)]
 pub struct Numbers {
     pub pointer: u16,
     pub sts: u32,
@@ -236,6 +237,19 @@ impl Slave {
             Ok(None)
         };
         Ok(self.step(notice, tick))
+    }
+
+    /// A packet with a tick of the other profile's clock, which is no tick of this slave's: 15, 1, 2 or else 3, by value.
+    pub fn foreign_packet(mut self, packet: &[u8], tick: u32) -> (Slave, Result<Reply, u8>) {
+        if rule(false, ForeignTickTaken, true) {
+            return self.packet_by_value(packet, tick);
+        }
+        let refused = self.awake().err().unwrap_or(match packet {
+            _ if packet.len() != 188 => 1,
+            [0x47, ..] => 3,
+            _ => 2,
+        });
+        (self, Err(refused))
     }
 
     /// A numbers notice with its packet and tick, in place. Numbers 15, 1, 2, 3, 20 refuse the call; 4, 11 to 13 the notice.

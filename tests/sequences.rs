@@ -1,0 +1,78 @@
+//! Sequences of calls, compared one by one. A difference is shortened to the shortest failing sequence that is found, and printed call by call.
+
+use crate::calls::{self, Call, Outcome};
+use crate::comparison::{Compared, Comparison, Difference};
+use crate::shrink;
+use crate::slave::{Slave, COLD};
+
+/// The calls since the sequence began, and the slave that they left.
+#[derive(Clone)]
+pub struct Sequence {
+    calls: Vec<Call>,
+    slave: Slave,
+}
+
+impl Default for Sequence {
+    fn default() -> Self {
+        Sequence { calls: Vec::new(), slave: COLD }
+    }
+}
+
+pub type Sequences = Comparison<Sequence>;
+
+/// A sequence of more calls begins anew with the slave that it came to.
+const LONG: usize = 400;
+
+impl Sequences {
+    /// A call with this slave. The sequence goes on if its last call left this slave, and begins with it otherwise.
+    pub fn call(&mut self, slave: Slave, call: Call) -> Compared<Outcome> {
+        if self.state.slave != slave || self.state.calls.len() >= LONG {
+            self.state = Sequence { calls: vec![Call::Hand(slave)], slave };
+        }
+        self.append(call)
+    }
+
+    /// A call that begins a sequence.
+    pub fn first(&mut self, call: Call) -> Compared<Outcome> {
+        self.state = Sequence::default();
+        self.append(call)
+    }
+
+    /// Calls beside the sequence, which goes on after them.
+    pub fn beside<T>(&mut self, calls: impl FnOnce(&mut Self) -> Compared<T>) -> Compared<T> {
+        let kept = std::mem::take(&mut self.state);
+        let result = calls(self)?;
+        self.state = kept;
+        Ok(result)
+    }
+
+    fn append(&mut self, call: Call) -> Compared<Outcome> {
+        self.calls += 1;
+        let agreed = calls::agreed(&call, self.state.slave);
+        self.state.calls.push(call);
+        match agreed {
+            Ok(outcome) => {
+                self.state.slave = outcome.slave;
+                Ok(outcome)
+            }
+            Err(_) => Err(self.shortened()),
+        }
+    }
+
+    /// The difference at the sequence's last call, with the shortest failing sequence found.
+    fn shortened(&self) -> Difference {
+        let fails = |calls: &[Call]| calls::disagreement(calls).map(|found| found.at + 1);
+        let shortest = shrink::shortest(&self.state.calls, fails, calls::joined, calls::simpler);
+        let found = calls::disagreement(&shortest);
+        let handed = usize::from(matches!(shortest.first(), Some(Call::Hand(_))));
+        let mut text = format!("seed {} call {}; the shortest failing sequence found:", self.seed, self.calls);
+        for (number, call) in (1..).zip(&shortest) {
+            text += &format!("\n  {number}. {call:?}");
+        }
+        match &found {
+            Some(found) => text += &format!("\n  with {:?}\n  ours  {:?}\n  other {:?}", found.slave, found.ours, found.other),
+            None => text += "\n  does not fail again",
+        }
+        Difference { text, calls: shortest.len() - handed, again: found.is_some() }
+    }
+}
