@@ -23,23 +23,22 @@ pub struct Tick {
     pub count: u32,
 }
 
-/// A mark's times in the unit of a profile.
+/// A mark's times. In C they are a union of the two units, which have one layout.
 #[repr(C)]
 #[derive(Clone, Copy, Debug, PartialEq)]
-pub struct MarkTimes<Unit> {
-    pub reference: Unit,
-    pub emission: Unit,
-    pub modulation: Unit,
+pub struct MarkTimes {
+    pub reference: u32,
+    pub emission: u32,
+    pub modulation: u32,
     pub wait: i64,
 }
 
-/// 0 none, 1 untimed, 2 late, 3 released in profile 0, 4 released in profile 1; then the times of that profile.
+/// 0 none, 1 untimed, 2 late, 3 released in profile 0, 4 released in profile 1; then the times in that profile's unit.
 #[repr(C)]
 #[derive(Clone, Copy, Debug, PartialEq)]
 pub struct Mark {
     pub kind: u8,
-    pub dvb: MarkTimes<Steps>,
-    pub a110: MarkTimes<Periods>,
+    pub times: MarkTimes,
 }
 
 #[repr(C)]
@@ -179,24 +178,16 @@ pub fn write(out: &mut [u8], n: &ground::Notice, field: &[u8]) -> u8 {
     unsafe { vikombare_write(out.as_mut_ptr(), out.len(), notice, field.as_ptr(), field.len()) }
 }
 
-/// A mark that has the times of a profile other than the slave's; the other implementation has none.
-const FOREIGN: u8 = 100;
-
 impl Reply {
-    /// The flat answer of a slave of this profile.
+    /// The flat answer of a slave of this profile. A release of the other profile has no flat form: it shows as another kind of mark.
     fn flat(self, profile: u8) -> Answer {
         let Reply { number, has_label, label, notice, ignored, turn, has_place, place, mark } = self;
-        let MarkTimes { reference: Steps(reference), emission: Steps(emission), modulation: Steps(modulation), wait } = mark.dvb;
-        let dvb = Times { reference, emission, modulation, wait };
-        let MarkTimes { reference: Periods(reference), emission: Periods(emission), modulation: Periods(modulation), wait } = mark.a110;
-        let a110 = Times { reference, emission, modulation, wait };
-        let (released, times, foreign) = if profile == 0 { (3, dvb, a110) } else { (4, a110, dvb) };
-        let mark = match mark.kind {
-            kind if foreign != Times::default() => FOREIGN + kind,
-            kind if kind < 3 => kind,
-            kind if kind == released => 3,
-            kind => FOREIGN + kind,
+        let MarkTimes { reference, emission, modulation, wait } = mark.times;
+        let mark = match (mark.kind, profile) {
+            (kind, _) if kind < 3 => kind,
+            (3, 0) | (4, 1) => 3,
+            (kind, _) => 100 + kind % 100,
         };
-        Answer { number, has_label, label, notice, ignored, turn, mark, times, has_place, place }
+        Answer { number, has_label, label, notice, ignored, turn, mark, times: Times { reference, emission, modulation, wait }, has_place, place }
     }
 }
