@@ -1,5 +1,6 @@
 /* What a board's firmware does with the library, in small: starts a slave, feeds it a stream, saves it, resumes it, and prints what it says. */
 #include <stdio.h>
+#include <stdlib.h>
 #include <string.h>
 
 #include "vikombare.h"
@@ -22,8 +23,10 @@ static void notice_packet(uint8_t *packet, uint16_t pointer, uint32_t sts, uint3
 {
     vikombare_notice notice = {.continuity = 0, .pointer = pointer, .periodic = true, .sts = {sts}, .md = {md}};
     uint8_t number = vikombare_write(packet, PACKET, notice, addressing, length);
-    if (number != 0)
+    if (number != 0) {
         printf("write refused %u\n", number);
+        exit(1);
+    }
 }
 
 static void print_reply(vikombare_reply reply)
@@ -58,6 +61,8 @@ static void print_reply(vikombare_reply reply)
     case VIKOMBARE_A110_RELEASED:
         printf(", mark: emission %lu, modulation %lu, wait %lld periods", (unsigned long)reply.mark.a110.emission.periods,
                (unsigned long)reply.mark.a110.modulation.periods, (long long)reply.mark.a110.wait);
+        break;
+    default: /* no mark */
         break;
     }
     printf("\n");

@@ -5,7 +5,7 @@
 
 int main(void)
 {
-    uint8_t packet[188];
+    uint8_t packet[VIKOMBARE_PACKET_BYTES];
     size_t got;
     unsigned long count = 0;
 
@@ -17,6 +17,10 @@ int main(void)
             printf("%lu pointer %u sts %lu md %lu tps %08lx continuity %u addressing %zu\n", count, r.notice.pointer, (unsigned long)r.notice.sts.steps,
                    (unsigned long)r.notice.md.steps, (unsigned long)r.notice.tps, r.notice.continuity, r.addressing);
         count++;
+    }
+    if (ferror(stdin)) {
+        fprintf(stderr, "reading failed\n");
+        return 1;
     }
     return 0;
 }

@@ -20,11 +20,10 @@ use Rattle.limits.specs.Limits.{second, delayKept}
 use Rattle.judging.specs.Judge.{unlessRefused, unlessIgnored, arrivalRefusal, takenRefusal, numbersRefusal, judgeMip, judgePacket, judgeNumbers}
 use Rattle.judging.specs.declared.Board.{Board}
 use Rattle.judging.specs.declared.Taken.{Taken}
-use Rattle.judging.specs.declared.Judged.{Judged}
-use Rattle.judging.specs.declared.Judged.the-variants.{Refuse, Plain, Ignore, Take}
+use Rattle.judging.specs.Judgement.{Judgement, Refuse, Plain, Ignore, Take}
 
 -- a number of K or of C decides
-refuses : (k : ℕ) (j : Judged) → (k ≡ 0 → ⊥) → unlessRefused k j ≡ Refuse k
+refuses : (k : ℕ) (j : Judgement) → (k ≡ 0 → ⊥) → unlessRefused k j ≡ Refuse k
 refuses zero j h = absurd (h refl)
 refuses (suc k) j h = refl
 
@@ -36,7 +35,7 @@ pub takes : (k : ℕ) (t : Taken) → k ≡ 0 → unlessIgnored k t ≡ Take t
 takes k t e = ap (λ (i : ℕ). unlessIgnored i t) e
 
 -- a number that was found for a notice, by the same notice with its signed numbers read back from their bits
-pub decided : (b : Board) (t u : Taken) (k : ℕ) (j : Judged) → j ≡ unlessIgnored k t → k ≡ takenRefusal b t → t ≡ u → j ≡ unlessIgnored (takenRefusal b u) u
+pub decided : (b : Board) (t u : Taken) (k : ℕ) (j : Judgement) → j ≡ unlessIgnored k t → k ≡ takenRefusal b t → t ≡ u → j ≡ unlessIgnored (takenRefusal b u) u
 decided b t u k j e r q = e ∙ ap (λ (i : ℕ). unlessIgnored i t) r ∙ ap (λ (v : Taken). unlessIgnored (takenRefusal b v) v) q
 
 abbrev takenOf : (pointer sts md : ℕ) → Settings → ℕ → Taken

@@ -13,8 +13,7 @@ use Rattle.notice.specs.Mip.{errorIndicator, packetIdentifier}
 use Rattle.judging.specs.Judge.{arrivalRefusal, judgePacket}
 use Rattle.judging.specs.Plain.{isPlain}
 use Rattle.judging.specs.declared.Board.{Board}
-use Rattle.judging.specs.declared.Judged.{Judged}
-use Rattle.judging.specs.declared.Judged.the-variants.{Plain}
+use Rattle.judging.specs.Judgement.{Judgement, Plain}
 use Rattle.judging.proofs.Judging.{packet-a110, packet-plain}
 
 module _ (b : Board) (p : List ℕ) (tick : ℕ) where

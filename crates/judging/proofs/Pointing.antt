@@ -19,15 +19,14 @@ use Rattle.judging.specs.Judge.{unlessRefused, unlessIgnored, arrivalRef
 use Rattle.judging.specs.Pointed.{Pointed}
 use Rattle.judging.specs.declared.Board.{Board}
 use Rattle.judging.specs.declared.Taken.{Taken}
-use Rattle.judging.specs.declared.Judged.{Judged}
-use Rattle.judging.specs.declared.Judged.the-variants.{Refuse, Plain, Ignore, Take}
+use Rattle.judging.specs.Judgement.{Judgement, Refuse, Plain, Ignore, Take}
 
 -- through each way of judging
-refused-or : (n k : ℕ) (j : Judged) → Pointed n j → Pointed n (unlessRefused k j)
+refused-or : (n k : ℕ) (j : Judgement) → Pointed n j → Pointed n (unlessRefused k j)
 refused-or n zero j h = h
 refused-or n (suc k) j h = tt
 
-either : (n : ℕ) (b : Bool) (i j : Judged) → Pointed n i → Pointed n j → Pointed n (cond b i j)
+either : (n : ℕ) (b : Bool) (i j : Judgement) → Pointed n i → Pointed n j → Pointed n (cond b i j)
 either n true i j h k = h
 either n false i j h k = k
 

@@ -18,16 +18,15 @@ use Rattle.notice.specs.declared.Notice.{Notice}
 use Rattle.limits.specs.Limits.{second, delayKept}
 use Rattle.judging.specs.declared.Board.{Board}
 use Rattle.judging.specs.declared.Taken.{Taken}
-use Rattle.judging.specs.declared.Judged.{Judged}
-use Rattle.judging.specs.declared.Judged.the-variants.{Refuse, Plain, Ignore, Take}
+use Rattle.judging.specs.Judgement.{Judgement, Refuse, Plain, Ignore, Take}
 
 -- a number of K refuses, else what follows
-abbrev pub unlessRefused : ℕ → Judged → Judged
+abbrev pub unlessRefused : ℕ → Judgement → Judgement
 unlessRefused zero j = j
 unlessRefused (suc k) j = Refuse (suc k)
 
 -- a number of C ignores the notice, else it is taken
-abbrev pub unlessIgnored : ℕ → Taken → Judged
+abbrev pub unlessIgnored : ℕ → Taken → Judgement
 unlessIgnored zero t = Take t
 unlessIgnored (suc k) t = Ignore (suc k)
 
@@ -48,7 +47,7 @@ takenRefusal b t =
     0))
 
 -- a MIP: 6 to 11 by the reader, 12 and 13 by the slave
-abbrev pub judgeMip : Board → Reply Notice → Reply Settings → Judged
+abbrev pub judgeMip : Board → Reply Notice → Reply Settings → Judgement
 judgeMip b (refused k) t = Ignore k
 judgeMip b (given n) (refused k) = Ignore k
 judgeMip b (given n) (given t) =
@@ -56,7 +55,7 @@ judgeMip b (given n) (given t) =
     unlessIgnored (takenRefusal b taken) taken
 
 -- a packet: 4 comes before the PID, and profile 1 reads no MIP
-unfoldable pub judgePacket : Board → Settings → List ℕ → ℕ → Judged
+unfoldable pub judgePacket : Board → Settings → List ℕ → ℕ → Judgement
 judgePacket b t p tick =
     unlessRefused (arrivalRefusal b p tick)
     (cond (eqb (errorIndicator p) 0)
@@ -70,7 +69,7 @@ unfoldable pub numbersRefusal : Board → ℕ → ℕ → ℕ
 numbersRefusal b sts md = must (inSecond (second (b .profile)) sts) 11 (must (inSecond (second (b .profile)) md) 11 0)
 
 -- a numbers notice: 1, 2, 3, then 20 in profile 0, 4, 11 to 13; frequency and power stay
-unfoldable pub judgeNumbers : Board → Settings → List ℕ → ℕ → (pointer sts md : ℕ) (od : ℤ) (index : ℕ) → Judged
+unfoldable pub judgeNumbers : Board → Settings → List ℕ → ℕ → (pointer sts md : ℕ) (od : ℤ) (index : ℕ) → Judgement
 judgeNumbers b t p tick pointer sts md od index =
     let taken : Taken = record { pointer = pointer; sts = sts; md = md; settings = record { od = od; frequency = t .frequency; power = t .power }; index = index } in
     unlessRefused (arrivalRefusal b p tick)

@@ -1,10 +1,9 @@
 -- What judging leaves to the step: a notice that is taken points within the cadence.
 -- Assumes nothing.
 use Prim.Native.Nat.{ℕ, _<_}
-use Rattle.judging.specs.declared.Judged.{Judged}
-use Rattle.judging.specs.declared.Judged.the-variants.{Refuse, Plain, Ignore, Take}
+use Rattle.judging.specs.Judgement.{Judgement, Refuse, Plain, Ignore, Take}
 
-abbrev pub Pointed : ℕ → Judged → Type 0
+abbrev pub Pointed : ℕ → Judgement → Type 0
 Pointed n (Refuse k) = Unit {0}
 Pointed n Plain = Unit {0}
 Pointed n (Ignore k) = Unit {0}

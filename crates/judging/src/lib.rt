@@ -9,6 +9,7 @@ ghost use lib.ListN.{length};
 ghost use Rattle.notice.specs.Mip.{errorIndicator, packetIdentifier};
 ghost use Rattle.notice.specs.Reader.{readOf, addressingPart};
 ghost use Rattle.addressing.specs.Entries.{settingsOf};
+ghost use Rattle.judging.specs.Judgement.{judgementOf};
 ghost use Rattle.judging.specs.Judge.{arrivalRefusal, takenRefusal, numbersRefusal, unlessIgnored, judgeMip, judgePacket, judgeNumbers};
 ghost use Rattle.judging.specs.Plain.{isPlain};
 
@@ -98,7 +99,7 @@ fn taken_refusal(b: Board, t: Taken) -> u8
 
 // A number of C ignores a notice, else it is taken.
 fn unless_ignored(number: u8, t: Taken) -> Judged
-    ensures { λ r. ⌜ r ≡ unlessIgnored number t ⌝ }
+    ensures { λ r. ⌜ judgementOf r ≡ unlessIgnored number t ⌝ }
 {
     if number != 0 {
         return Judged::Ignore(number);
@@ -108,7 +109,7 @@ fn unless_ignored(number: u8, t: Taken) -> Judged
 
 // A packet of profile 0 with the MIP's PID.
 fn judge_mip(b: Board, t: Settings, p: &[u8]) -> Judged
-    ensures { λ r. ⌜ r ≡ judgeMip b (readOf (now (p .entry))) (settingsOf (addressingPart (now (p .entry))) (b .site) t) ⌝ }
+    ensures { λ r. ⌜ judgementOf r ≡ judgeMip b (readOf (now (p .entry))) (settingsOf (addressingPart (now (p .entry))) (b .site) t) ⌝ }
 {
     match notice::read_notice(p) {
         Reading::Accepted(n) => {
@@ -151,7 +152,7 @@ pub fn is_plain(b: Board, p: &[u8], tick: u32) -> bool
 
 // A packet with its arrival tick. 4 comes before the PID, and profile 1 reads no MIP.
 pub fn judge_packet(b: Board, t: Settings, p: &[u8], tick: u32) -> Judged
-    ensures { λ r. ⌜ r ≡ judgePacket b t (now (p .entry)) tick ⌝ }
+    ensures { λ r. ⌜ judgementOf r ≡ judgePacket b t (now (p .entry)) tick ⌝ }
 {
     let arrival = arrival_refusal(b, p, tick);
     if arrival != 0 {
@@ -194,7 +195,7 @@ pub fn judge_numbers(
     od: i16,
     index: u8,
 ) -> Judged
-    ensures { λ r. ⌜ r ≡ judgeNumbers b t (now (p .entry)) tick pointer sts md od index ⌝ }
+    ensures { λ r. ⌜ judgementOf r ≡ judgeNumbers b t (now (p .entry)) tick pointer sts md od index ⌝ }
 {
     let arrival = arrival_refusal(b, p, tick);
     if arrival != 0 {

@@ -18,7 +18,7 @@ use Rattle.cadence.specs.Cadence.{admits}
 use Rattle.limits.specs.Limits.{settingsKept}
 use Rattle.slave.specs.Calls.{startOf, packetOf}
 use Rattle.slave.specs.declared.Slave.{Slave}
-use Rattle.lines.specs.Line.{lineOf, endLine}
+use Rattle.text.specs.Line.{lineOf, endLine}
 use Rattle.lines.specs.Log.{begunBy, openedBy, openingOf, recordOf, slaveAfter, linesOf}
 use Rattle.lines.proofs.Carrying.{and-false, drop-take}
 use Rattle.lines.specs.Pieces.{handledIn, mostRecords, Handled, endingOf}

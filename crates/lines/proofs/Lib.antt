@@ -1,7 +1,4 @@
 -- The laws of crate `lines`, in the order in which they build on each other.
-pub mod Decimals
-pub mod Putting
-pub mod Filling
 pub mod Carrying
 pub mod Capture
 pub mod Whole

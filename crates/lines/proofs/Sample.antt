@@ -11,8 +11,8 @@ use Rattle.slave.specs.Sound.{sound}
 use Rattle.judging.specs.Judge.{arrivalRefusal, judgePacket}
 use Rattle.slave.specs.Step.{unheard, counted, stepOf}
 use Rattle.slave.specs.Calls.{startOf, packetOf}
-use Rattle.lines.specs.Decimal.{decimalIn, decimal}
-use Rattle.lines.specs.Line.{lineOf, siteLine, endLine}
+use Rattle.text.specs.Decimal.{decimalIn, decimal}
+use Rattle.text.specs.Line.{lineOf, siteLine, endLine}
 use Rattle.lines.specs.Log.{begunBy, openingOf, recordOf, linesOf, restOf, logOf}
 
 -- a null packet whose byte 0 is given

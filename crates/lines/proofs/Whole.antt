@@ -16,7 +16,7 @@ use Rattle.wire.specs.BigEndian.{be16, be32, be16At}
 use Rattle.slave.specs.Answer.{Result}
 use Rattle.slave.specs.Calls.{startOf}
 use Rattle.slave.specs.declared.Slave.{Slave}
-use Rattle.lines.specs.Line.{refusalText, lineOf, endLine}
+use Rattle.text.specs.Line.{refusalText, lineOf, endLine}
 use Rattle.lines.specs.Log.{begunBy, openedBy, openingOf, recordOf, slaveAfter, linesOf, recordsIn, restOf, unlessRefused, logOf}
 use Rattle.lines.specs.Pieces.{mostRecords, handledIn, endingOf, inPieces, joined}
 use Rattle.lines.proofs.Capture.{record-cut, ending-empty, ending-cut, begun-long}

@@ -11,7 +11,7 @@ use Rattle.slave.specs.Sound.{cold}
 use Rattle.slave.specs.Answer.{Result, Moved}
 use Rattle.slave.specs.Calls.{startOf, packetOf}
 use Rattle.slave.specs.declared.Slave.{Slave}
-use Rattle.lines.specs.Line.{refusalText, lineOf, siteLine, endLine}
+use Rattle.text.specs.Line.{refusalText, lineOf, siteLine, endLine}
 
 -- the settings: profile (1), n (2), site (2), TAD (4)
 abbrev pub settingsLength : ℕ

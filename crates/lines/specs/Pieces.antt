@@ -7,10 +7,10 @@ use mathlib.Core.List.{List, [], _∷_, _++_}
 use lib.Dec.{eqb, leb}
 use lib.ListN.{length, take, drop}
 use Rattle.wire.specs.Reply.{refused}
-use Rattle.lines.specs.Line.{lineOf, endLine}
+use Rattle.text.specs.Line.{lineOf, endLine}
 use Rattle.slave.specs.declared.Slave.{Slave}
 use Rattle.lines.specs.Log.{recordLength, slaveAfter, linesOf}
-use Rattle.lines.specs.Puts.{Fronts}
+use Rattle.text.specs.Puts.{Fronts}
 use Rattle.lines.specs.declared.Piece.{Piece}
 use Rattle.lines.specs.declared.Held.{Held}
 

@@ -7,12 +7,10 @@ ghost use mathlib.Core.Path.{_≡_};
 ghost use Prim.Native.Nat.{min};
 ghost use lib.ListN.{length, take};
 ghost use Rattle.slave.specs.Answer.{outcomeOf};
-ghost use Rattle.lines.specs.Line.{lineOf};
+ghost use Rattle.text.specs.Line.{lineOf};
 ghost use Rattle.lines.specs.Log.{begunBy, openedBy, openingOf, recordOf};
-ghost use Rattle.lines.specs.Puts.{Fronts};
+ghost use Rattle.text.specs.Puts.{Fronts};
 ghost use Rattle.lines.specs.Pieces.{handledIn, Handled, PieceTaken, endingOf, carried};
-
-mod text;
 
 // What the settings at the front of a capture give, and how many bytes were written.
 pub struct Begun {
@@ -117,7 +115,7 @@ fn handled(bytes: usize, room: usize, number: u64) -> usize
 }
 
 // The lines of as many records as are whole and have room.
-pub fn records(s: Slave, number: u64, input: &[u8], out: &mut [u8]) -> Piece
+fn records(s: Slave, number: u64, input: &[u8], out: &mut [u8]) -> Piece
     ensures { λ r. ⌜ Handled s number (now (input .entry)) (now (out .entry)) (handledIn (length (now (input .entry))) (length (now (out .entry))) number) (now (out .exit)) r ⌝ }
 {
     let whole = handled(input.len(), out.len(), number);
@@ -184,7 +182,7 @@ pub fn ending(number: u64, rest: &[u8], out: &mut [u8; 192]) -> usize
 }
 
 // Moves the bytes from `from` to `to` to the front; nothing where there are no such bytes.
-pub fn carry(buf: &mut [u8], from: usize, to: usize)
+fn carry(buf: &mut [u8], from: usize, to: usize)
     ensures { λ _. ⌜ now (buf .exit) ≡ carried (now (buf .entry)) from to ⌝ }
 {
     if buf.len() < to {

@@ -4,12 +4,7 @@ use mathlib.Core.Path.{_≡_}
 use Prim.Native.Nat.{ℕ}
 use lib.IntN.{ℤ}
 use Rattle.probe.specs.declared.ProbeTimes.{ProbeTimes}
-use Rattle.probe.specs.declared.slaves.ProbeMark.{ProbeMark}
 
 pub same-wait : {r e m : ℕ} {w w′ : ℤ} → w ≡ w′
     → _≡_ {A = ProbeTimes} (record { number = 0; reference = r; emission = e; modulation = m; wait = w }) (record { number = 0; reference = r; emission = e; modulation = m; wait = w′ })
 same-wait {r} {e} {m} q = λ i. record { number = 0; reference = r; emission = e; modulation = m; wait = q i }
-
-pub same-times : {k r e m : ℕ} {w w′ : ℤ} → w ≡ w′
-    → _≡_ {A = ProbeMark} (record { kind = k; reference = r; emission = e; modulation = m; wait = w }) (record { kind = k; reference = r; emission = e; modulation = m; wait = w′ })
-same-times {k = k} {r = r} {e = e} {m = m} p = λ i. record { kind = k; reference = r; emission = e; modulation = m; wait = p i }

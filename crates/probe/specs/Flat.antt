@@ -1,24 +1,13 @@
 -- The answers of the calls as plain numbers: the paper's number, 0 for none, and the values, all 0 where a number refuses.
 -- Assumes nothing.
 use Prim.Native.Nat.{ℕ}
-use mathlib.Core.Bool.{false}
 use lib.IntN.{pos}
-use lib.ListN.{length}
 use Rattle.wire.specs.Reply.{Reply, refused, given}
 use Rattle.times.specs.Release.{Times}
 use Rattle.addressing.specs.declared.Settings.{Settings}
-use Rattle.notice.specs.declared.Notice.{Notice}
-use Rattle.probe.specs.declared.ProbeReading.{ProbeReading}
 use Rattle.probe.specs.declared.ProbeSettings.{ProbeSettings}
 use Rattle.probe.specs.declared.ProbeTimes.{ProbeTimes}
 use Rattle.probe.specs.declared.ProbeLabel.{ProbeLabel}
-
--- a notice, with the length of its addressing field
-abbrev pub flatReading : Reply Notice → ℕ → ProbeReading
-flatReading (refused k) a =
-    record { number = k; continuity = 0; pointer = 0; periodic = false; reserved = 0; sts = 0; md = 0; tps = 0; addressing = 0 }
-flatReading (given n) a =
-    record { number = 0; continuity = n .continuity; pointer = n .pointer; periodic = n .periodic; reserved = n .reserved; sts = n .sts .0; md = n .md .0; tps = n .tps; addressing = a }
 
 abbrev pub flatSettings : Reply Settings → ProbeSettings
 flatSettings (refused k) = record { number = k; od = pos 0; frequency = pos 0; power = 0 }

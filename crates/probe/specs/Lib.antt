@@ -1,3 +1,2 @@
 -- The definitions of crate `probe`, in reading order.
 pub mod Flat
-pub mod Slaves

@@ -1,20 +1,16 @@
-// The calls for programs in other languages, so that another implementation can be compared with them and speed can be measured.
-// For tests: it is no part of what a board links.
-pub mod saves;
-pub mod slaves;
-
+// Calls that a board does not link, for C, so that another implementation can be compared with them and speed can be measured: what the slave stands on,
+// and packets by value. For tests.
 use addressing::Settings;
 use addressing::Walked;
 use cadence::Answer;
-use notice::Notice;
-use notice::Reading;
-use notice::Written;
+use slave::Slave;
 use times::A110Release;
 use times::DvbRelease;
 use times::Periods;
 use times::Steps;
+use vikombare::Step;
+use vikombare::reply;
 ghost use mathlib.Core.Path.{_≡_};
-ghost use lib.ListN.{length};
 ghost use Rattle.wire.specs.Standards.{dvbSecond, a110Second};
 ghost use Rattle.check_value.specs.Register.{register};
 ghost use Rattle.times.specs.Release.{delayFits, delayFitsA110, dvbRelease, a110Release};
@@ -22,22 +18,9 @@ ghost use Rattle.addressing.specs.Entries.{settingsOf};
 ghost use Rattle.cadence.specs.Cadence.{admits};
 ghost use Rattle.cadence.specs.Label.{labelOf, within};
 ghost use Rattle.cadence.specs.MobileFrame.{mobilePlace};
-ghost use Rattle.notice.specs.Reader.{readOf, addressingPart};
-ghost use Rattle.notice.specs.Writer.{writeRefusal, writeOf};
-ghost use Rattle.probe.specs.Flat.{flatReading, flatSettings, flatTimes, flatLabel};
-
-#[repr(C)]
-pub struct ProbeReading {
-    pub number: u8,
-    pub continuity: u8,
-    pub pointer: u16,
-    pub periodic: bool,
-    pub reserved: u16,
-    pub sts: u32,
-    pub md: u32,
-    pub tps: u32,
-    pub addressing: usize,
-}
+ghost use Rattle.slave.specs.Calls.{packetOf};
+ghost use Rattle.vikombare.specs.Flat.{flatReply};
+ghost use Rattle.probe.specs.Flat.{flatSettings, flatTimes, flatLabel};
 
 #[repr(C)]
 pub struct ProbeSettings {
@@ -67,70 +50,6 @@ pub extern "C" fn probe_register(s: &[u8]) -> u32
     ensures { λ r. ⌜ r ≡ register (now (s .entry)) ⌝ }
 {
     check_value::register_of(s)
-}
-
-#[no_mangle]
-pub extern "C" fn probe_read(p: &[u8]) -> ProbeReading
-    ensures { λ r. ⌜ r ≡ flatReading (readOf (now (p .entry))) (length (addressingPart (now (p .entry)))) ⌝ }
-{
-    match notice::read_notice(p) {
-        Reading::Accepted(n) => {
-            let part = notice::addressing_part(p);
-            let sts = n.sts;
-            let md = n.md;
-            ProbeReading {
-                number: 0,
-                continuity: n.continuity,
-                pointer: n.pointer,
-                periodic: n.periodic,
-                reserved: n.reserved,
-                sts: sts.0,
-                md: md.0,
-                tps: n.tps,
-                addressing: part.len(),
-            }
-        }
-        Reading::Refused(k) => ProbeReading {
-            number: k,
-            continuity: 0,
-            pointer: 0,
-            periodic: false,
-            reserved: 0,
-            sts: 0,
-            md: 0,
-            tps: 0,
-            addressing: 0,
-        },
-    }
-}
-
-#[no_mangle]
-pub extern "C" fn probe_write(
-    out: &mut [u8],
-    continuity: u8,
-    pointer: u16,
-    periodic: bool,
-    reserved: u16,
-    sts: u32,
-    md: u32,
-    tps: u32,
-    field: &[u8],
-) -> u8
-    ensures { λ r. ⌜ (r ≡ writeRefusal (length (now (out .entry))) (record { continuity = continuity; pointer = pointer; periodic = periodic; reserved = reserved; sts = record { 0 = sts }; md = record { 0 = md }; tps = tps }) (now (field .entry))) × (now (out .exit) ≡ writeOf (now (out .entry)) (record { continuity = continuity; pointer = pointer; periodic = periodic; reserved = reserved; sts = record { 0 = sts }; md = record { 0 = md }; tps = tps }) (now (field .entry))) ⌝ }
-{
-    let n = Notice {
-        continuity: continuity,
-        pointer: pointer,
-        periodic: periodic,
-        reserved: reserved,
-        sts: Steps(sts),
-        md: Steps(md),
-        tps: tps,
-    };
-    match notice::write_notice(out, n, field) {
-        Written::Done => 0,
-        Written::Refused(k) => k,
-    }
 }
 
 #[no_mangle]
@@ -292,4 +211,18 @@ pub extern "C" fn probe_mobile_place(i: u8, p: u16) -> u16
     ensures { λ r. ⌜ r ≡ mobilePlace i p ⌝ }
 {
     cadence::mobile_place(i, p)
+}
+
+// A packet by value; its answer is a numbers notice's.
+#[no_mangle]
+pub extern "C" fn probe_packet(s: Slave, p: &[u8], tick: u32) -> Step
+    ensures { λ r. ⌜ (r .slave ≡ packetOf s (now (p .entry)) tick .slave) × (r .reply ≡ flatReply (packetOf s (now (p .entry)) tick .reply)) ⌝ }
+{
+    let r = slave::packet(s, p, tick);
+    let t = r.slave;
+    let a = r.answer;
+    Step {
+        slave: t,
+        reply: reply::reply_of(a),
+    }
 }

@@ -24,8 +24,7 @@ use Rattle.slave.specs.Step.{markFrom, releaseAt, markAt, passed, unheard, coun
 use Rattle.slave.specs.Gap.{toMark, gapped}
 use Rattle.slave.specs.declared.Slave.{Slave}
 use Rattle.judging.specs.declared.Taken.{Taken}
-use Rattle.judging.specs.declared.Judged.{Judged}
-use Rattle.judging.specs.declared.Judged.the-variants.{Refuse, Plain, Ignore, Take}
+use Rattle.judging.specs.Judgement.{Judgement, Refuse, Plain, Ignore, Take}
 use Rattle.run.specs.Adapter.{Written, Adapter, Wrote}
 use Rattle.run.specs.Book.{ignored, taken, verdictOf, Book, closed, opened, untold, count, fall, enter}
 use Rattle.run.specs.Run.{Genuine}
@@ -271,7 +270,7 @@ module _ (A : Adapter) (s : Slave) (some-n : 0 < s .n) where
       (λ l. (passed-right last u told od f t notice tick, passed-tracks last u told od f t notice tick))
       (λ l. absurd (false≢true (sym l ∙ f .locked)))
 
-  pub step-follows : (b : Book) → Follows A b s → (j : Judged) (t tick : ℕ) → Genuine (s .n) A t (verdictOf j)
+  pub step-follows : (b : Book) → Follows A b s → (j : Judgement) (t tick : ℕ) → Genuine (s .n) A t (verdictOf j)
       → RightReply (s .n) (second (s .profile)) A b t (verdictOf j) (stepOf s j tick .reply) × Follows A (enter b t (verdictOf j)) (stepOf s j tick .slave)
   unfolding stepOf verdictOf enter
   step-follows b f (Refuse k) t tick w = (refl, f)

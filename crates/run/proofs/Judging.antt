@@ -23,8 +23,7 @@ use Rattle.limits.specs.Limits.{second, delayKept, frequencyFits, indexFits}
 use Rattle.judging.specs.Judge.{unlessRefused, unlessIgnored, arrivalRefusal, takenRefusal, judgeMip, judgePacket, numbersRefusal, judgeNumbers}
 use Rattle.judging.specs.declared.Board.{Board}
 use Rattle.judging.specs.declared.Taken.{Taken}
-use Rattle.judging.specs.declared.Judged.{Judged}
-use Rattle.judging.specs.declared.Judged.the-variants.{Refuse, Plain, Ignore, Take}
+use Rattle.judging.specs.Judgement.{Judgement, Refuse, Plain, Ignore, Take}
 use Rattle.run.specs.Book.{Arrival, packet, numbers, taken, verdictOf, judged, verdict}
 use Rattle.run.proofs.Tests.{both, pair, no, must-be, must-not}
 use Rattle.run.proofs.Entries.{Both, settings-both, OneOd, od-kept, Fitting, frequency-kept}
@@ -32,10 +31,10 @@ use Rattle.run.proofs.Entries.{Both, settings-both, OneOd, od-kept, Fit
 -- ---- frequency and power do not matter
 
 -- one verdict on both
-abbrev Alike : Judged → Judged → Type 0
+abbrev Alike : Judgement → Judgement → Type 0
 Alike i j = verdictOf i ≡ verdictOf j
 
-refused-alike : (k : ℕ) (i j : Judged) → Alike i j → Alike (unlessRefused k i) (unlessRefused k j)
+refused-alike : (k : ℕ) (i j : Judgement) → Alike i j → Alike (unlessRefused k i) (unlessRefused k j)
 refused-alike zero i j e = e
 refused-alike (suc k) i j e = refl
 
@@ -43,7 +42,7 @@ refused-alike (suc k) i j e = refl
 abbrev numbersIn : (pointer sts md : ℕ) → Settings → ℕ → Taken
 numbersIn pointer sts md t index = record { pointer = pointer; sts = sts; md = md; settings = t; index = index }
 
-abbrev limited : Board → Taken → Judged
+abbrev limited : Board → Taken → Judgement
 limited g t = unlessIgnored (takenRefusal g t) t
 
 limited-alike : (g : Board) (pointer sts md index : ℕ) (t u : Settings) → OneOd t u
@@ -106,7 +105,7 @@ apart x = (
   λ k e. let z : _≡_ {A = ℕ} 0 1 = cc in omega arith,
 )
 
-after-refusal : (k : ℕ) (j : Judged) (x : Taken) → unlessRefused k j ≡ Take x → j ≡ Take x
+after-refusal : (k : ℕ) (j : Judgement) (x : Taken) → unlessRefused k j ≡ Take x → j ≡ Take x
 after-refusal zero j x e = e
 after-refusal (suc k) j x e = absurd (apart x .2 (suc k) e)
 

@@ -20,8 +20,7 @@ use Rattle.slave.specs.Gap.{toMark, gapped}
 use Rattle.slave.specs.Calls.{boardOf}
 use Rattle.slave.specs.declared.Slave.{Slave}
 use Rattle.judging.specs.declared.Taken.{Taken}
-use Rattle.judging.specs.declared.Judged.{Judged}
-use Rattle.judging.specs.declared.Judged.the-variants.{Refuse, Plain, Ignore, Take}
+use Rattle.judging.specs.Judgement.{Judgement, Refuse, Plain, Ignore, Take}
 use Rattle.run.proofs.Tests.{both, join, either, pick, split, yes, no}
 use Rattle.run.proofs.Judging.{Fit}
 
@@ -163,7 +162,7 @@ module _ (s : Slave) (ok : sound s ≡ true) where
       })
 
   -- a step on a packet that was judged, whatever was taken kept the limits
-  pub step-sound : (j : Judged) (tick : ℕ) → ((t : Taken) → j ≡ Take t → Fit (boardOf s) t) → sound (stepOf s j tick .slave) ≡ true
+  pub step-sound : (j : Judgement) (tick : ℕ) → ((t : Taken) → j ≡ Take t → Fit (boardOf s) t) → sound (stepOf s j tick .slave) ≡ true
   unfolding stepOf
   step-sound (Refuse k) tick f = ok
   step-sound Plain tick f = counted-sound _ tick

@@ -15,8 +15,7 @@ use Rattle.slave.specs.Gap.{gapped}
 use Rattle.slave.specs.Calls.{boardOf, inForce}
 use Rattle.slave.specs.declared.Slave.{Slave}
 use Rattle.judging.specs.declared.Board.{Board}
-use Rattle.judging.specs.declared.Judged.{Judged}
-use Rattle.judging.specs.declared.Judged.the-variants.{Refuse, Plain, Ignore, Take}
+use Rattle.judging.specs.Judgement.{Judgement, Refuse, Plain, Ignore, Take}
 use Rattle.run.specs.Adapter.{Adapter}
 use Rattle.run.specs.Book.{Arrival, packet, numbers, Call, at, gap, Verdict, verdictOf, judged, verdict, Book, closed, opened, odOf, count, fall, enter, turn, turns}
 use Rattle.run.specs.Run.{Genuine, AllGenuine}
@@ -44,7 +43,7 @@ moves s (c ∷ cs) = moves (moved s c) cs
 
 -- ---- the start's settings stay
 
-step-board : (s : Slave) (j : Judged) (tick : ℕ) → boardOf (stepOf s j tick .slave) ≡ boardOf s
+step-board : (s : Slave) (j : Judgement) (tick : ℕ) → boardOf (stepOf s j tick .slave) ≡ boardOf s
 unfolding stepOf counted passed unheard took
 step-board s (Refuse k) tick = refl
 step-board s Plain tick = pick (λ (r : Result). boardOf (r .slave) ≡ boardOf s) (eqb (s .phase) 2) _ _ refl refl
@@ -67,7 +66,7 @@ unfolding counted passed unheard count
 counted-od s closed notice t tick e = pick (λ (r : Result). r .slave .od ≡ pos 0) (eqb (s .phase) 2) _ _ e e
 counted-od s (opened last u told od) notice t tick e = pick (λ (r : Result). r .slave .od ≡ od) (eqb (s .phase) 2) _ _ e e
 
-step-od : (s : Slave) (b : Book) (j : Judged) (t tick : ℕ) → s .od ≡ odOf b → stepOf s j tick .slave .od ≡ odOf (enter b t (verdictOf j))
+step-od : (s : Slave) (b : Book) (j : Judgement) (t tick : ℕ) → s .od ≡ odOf b → stepOf s j tick .slave .od ≡ odOf (enter b t (verdictOf j))
 unfolding stepOf took enter verdictOf
 step-od s b (Refuse k) t tick e = e
 step-od s b Plain t tick e = counted-od s b absent t tick e
@@ -104,7 +103,7 @@ own-step A b s some od f (at t a) w =
     same
     (core .0, record { board = step-board s j (tickOf a); od = step-od s b j t (tickOf a) od; follows = core .1 })
   where
-    j : Judged
+    j : Judgement
     j = judged (boardOf s) (inForce s) a
 
     same : verdictOf j ≡ verdict (boardOf s) (odOf b) a

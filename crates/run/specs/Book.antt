@@ -8,8 +8,7 @@ use Rattle.addressing.specs.declared.Settings.{Settings}
 use Rattle.limits.specs.Limits.{isZero}
 use Rattle.judging.specs.Judge.{judgePacket, judgeNumbers}
 use Rattle.judging.specs.declared.Board.{Board}
-use Rattle.judging.specs.declared.Judged.{Judged}
-use Rattle.judging.specs.declared.Judged.the-variants.{Refuse, Plain, Ignore, Take}
+use Rattle.judging.specs.Judgement.{Judgement, Refuse, Plain, Ignore, Take}
 
 -- ---- the calls
 
@@ -35,13 +34,13 @@ pub data Verdict : Type 0 where
   ignored : ℕ → Verdict  -- counted, its notice refused with a number of C
   taken : (pointer sts md : ℕ) (od : ℤ) → Verdict  -- its notice accepted; OD is the one in force from then on
 
-unfoldable pub verdictOf : Judged → Verdict
+unfoldable pub verdictOf : Judgement → Verdict
 verdictOf (Refuse k) = kept k
 verdictOf Plain = plain
 verdictOf (Ignore k) = ignored k
 verdictOf (Take t) = taken (t .pointer) (t .sts) (t .md) (t .settings .od)
 
-unfoldable pub judged : Board → Settings → Arrival → Judged
+unfoldable pub judged : Board → Settings → Arrival → Judgement
 judged g t (packet form p tick) = judgePacket g t p tick
 judged g t (numbers p tick pointer sts md od index) = judgeNumbers g t p tick pointer sts md od index
 

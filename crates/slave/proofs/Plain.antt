@@ -17,8 +17,7 @@ use Rattle.slave.specs.Calls.{boardOf, inForce, packetOf}
 use Rattle.judging.specs.Plain.{isPlain}
 use Rattle.slave.specs.Quick.{onMark, labelLeft, plainReply, applies, quickNext, quickReply}
 use Rattle.slave.specs.declared.Slave.{Slave}
-use Rattle.judging.specs.declared.Judged.{Judged}
-use Rattle.judging.specs.declared.Judged.the-variants.{Plain}
+use Rattle.judging.specs.Judgement.{Judgement, Plain}
 use Rattle.wire.proofs.Tests.{both}
 use Rattle.slave.proofs.Ways.{passed-on, passed-reply, counts, counts-not}
 use Rattle.judging.proofs.Plain.{judged-plain}
@@ -97,7 +96,7 @@ module _ (s : Slave) (p : List ℕ) (tick : ℕ) where
         (g .0, g .1, not-true _ (h .1))
 
     stepped : packetOf s p tick ≡ stepOf s Plain tick
-    stepped = packet-steps s p tick (holds .0) ∙ ap (λ (j : Judged). stepOf s j tick) (judged-plain (boardOf s) p tick (inForce s) (holds .1))
+    stepped = packet-steps s p tick (holds .0) ∙ ap (λ (j : Judgement). stepOf s j tick) (judged-plain (boardOf s) p tick (inForce s) (holds .1))
 
     no-mark : s .phase ≡ 2 → s .next ≡ 0 → ⊥
     no-mark e z = false≢true (sym (holds .2) ∙ rw (eq-eqb (s .phase) 2 e, eq-eqb (s .next) 0 z))

@@ -10,8 +10,7 @@ use Rattle.cadence.specs.MobileFrame.{frameMarks, mobilePlace}
 use Rattle.slave.specs.Answer.{Option, none, some, Notice, absent, taken, slip, ignored, Mark, unmarked, untimed, late, released, Result}
 use Rattle.slave.specs.declared.Slave.{Slave}
 use Rattle.judging.specs.declared.Taken.{Taken}
-use Rattle.judging.specs.declared.Judged.{Judged}
-use Rattle.judging.specs.declared.Judged.the-variants.{Refuse, Plain, Ignore, Take}
+use Rattle.judging.specs.Judgement.{Judgement, Refuse, Plain, Ignore, Take}
 
 -- each mark passed raises a known index by one, 19 to 0
 abbrev pub raised : ℕ → ℕ → ℕ
@@ -106,7 +105,7 @@ took s t tick =
     entered s t label (indexBefore s label) (noticeTaken s label) (markTaken s label tick)
 
 -- what a judged packet does
-unfoldable pub stepOf : Slave → Judged → ℕ → Result
+unfoldable pub stepOf : Slave → Judgement → ℕ → Result
 stepOf s (Refuse k) tick = record { slave = s; reply = refused k }
 stepOf s Plain tick = counted s absent tick
 stepOf s (Ignore k) tick = counted s (ignored k) tick

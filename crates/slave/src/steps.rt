@@ -20,6 +20,7 @@ ghost use lib.Dec.{eqb};
 ghost use Rattle.times.specs.Release.{dvbRelease, a110Release};
 ghost use Rattle.cadence.specs.Label.{nextLabel};
 ghost use Rattle.slave.specs.Answer.{optionOf, noticeOf, markOf, answerOf, untimed, unmarked};
+ghost use Rattle.judging.specs.Judgement.{judgementOf};
 ghost use Rattle.judging.specs.Pointed.{Pointed};
 ghost use Rattle.slave.specs.Step.{placeOf, markFrom, releaseAt, markAt, indexAt, indexAfter, turns, passed, counted, entered, took, stepOf};
 ghost use Rattle.slave.specs.Quick.{onMark, labelLeft, plainReply};
@@ -299,8 +300,8 @@ fn take(s: Slave, t: Taken, tick: u32) -> Stepped
 
 // What a judged packet does.
 pub(crate) fn step(s: Slave, j: Judged, tick: u32) -> Stepped
-    requires { ⌜ (s .next < s .n) × Pointed (s .n) j ⌝ }
-    ensures { λ r. ⌜ (r .slave ≡ stepOf s j tick .slave) × (answerOf (r .answer) ≡ stepOf s j tick .reply) ⌝ }
+    requires { ⌜ (s .next < s .n) × Pointed (s .n) (judgementOf j) ⌝ }
+    ensures { λ r. ⌜ (r .slave ≡ stepOf s (judgementOf j) tick .slave) × (answerOf (r .answer) ≡ stepOf s (judgementOf j) tick .reply) ⌝ }
 {
     match j {
         Judged::Plain => count(s, NoticePart::Absent, tick),

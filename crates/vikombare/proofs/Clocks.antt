@@ -12,8 +12,7 @@ use Rattle.wire.specs.Standards.{dvbSecond, a110Second}
 use Rattle.times.specs.Release.{inSecond}
 use Rattle.limits.specs.Limits.{second}
 use Rattle.judging.specs.Judge.{arrivalRefusal, judgePacket}
-use Rattle.judging.specs.declared.Judged.{Judged}
-use Rattle.judging.specs.declared.Judged.the-variants.{Refuse}
+use Rattle.judging.specs.Judgement.{Judgement, Refuse}
 use Rattle.judging.proofs.Judging.{arrival-3, packet-refused}
 use Rattle.slave.specs.Sound.{sound, cold}
 use Rattle.slave.specs.Step.{stepOf}
@@ -43,4 +42,4 @@ other-clock s p t h l y d =
     let refusal : arrivalRefusal (boardOf s) p tick ≡ 3 = ap (arrivalRefusal (boardOf s) p) none ∙ sym (arrival-3 (boardOf s) p noTick l y (beyond (s .profile))) in
     let judged : judgePacket (boardOf s) (inForce s) p tick ≡ Refuse 3 = packet-refused (boardOf s) (inForce s) p tick (not-zero _ refusal) ∙ ap Refuse refusal in
     ap (λ (b : Bool). cond b (stepOf s (judgePacket (boardOf s) (inForce s) p tick) tick) (record { slave = cold; reply = refused 15 })) h
-    ∙ ap (λ (j : Judged). stepOf s j tick) judged
+    ∙ ap (λ (j : Judgement). stepOf s j tick) judged

@@ -8,7 +8,7 @@ use denote.Ref.{now}
 use borrow.Author.Needs.{needs}
 use Rattle.notice.specs.Mip.{errorIndicator}
 use Rattle.judging.specs.Judge.{arrivalRefusal}
-use Rattle.judging.specs.declared.Judged.the-variants.{Refuse, Ignore}
+use Rattle.judging.specs.Judgement.{Refuse, Ignore}
 use Rattle.judging.proofs.Judging.{arrived-long, decided, read-back, numbers-refused, numbers-20, numbers-4, numbers-11, numbers-taken}
 use Rattle.judging.proofs.judge_numbers.Statement.{statement}
 use Rattle.judging.proofs.judge_numbers.Tie as tie

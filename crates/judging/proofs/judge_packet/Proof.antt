@@ -5,7 +5,7 @@ use denote.Ref.{now}
 use borrow.Author.Needs.{needs}
 use Rattle.notice.specs.Mip.{errorIndicator}
 use Rattle.judging.specs.Judge.{arrivalRefusal}
-use Rattle.judging.specs.declared.Judged.the-variants.{Refuse}
+use Rattle.judging.specs.Judgement.{Refuse}
 use Rattle.judging.proofs.Judging.{arrived-long, packet-refused, packet-4, packet-a110, packet-plain, packet-mip}
 use Rattle.judging.proofs.judge_packet.Statement.{statement}
 use Rattle.judging.proofs.judge_packet.Tie as tie

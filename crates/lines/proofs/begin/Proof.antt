@@ -8,7 +8,7 @@ use Rattle.wire.specs.Reply.{Reply}
 use Rattle.slave.specs.Answer.{Moved}
 use Rattle.slave.specs.Calls.{startOf}
 use Rattle.lines.specs.Log.{begunBy, openedBy}
-use Rattle.lines.proofs.Putting.{refront}
+use Rattle.text.proofs.Putting.{refront}
 use Rattle.lines.proofs.Capture.{begun-short, begun-long, opening-short, opening-from}
 use Rattle.lines.proofs.begin.Statement.{statement}
 use Rattle.lines.proofs.begin.Tie as tie

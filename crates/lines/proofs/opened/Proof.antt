@@ -5,7 +5,7 @@ use mathlib.Core.Path.{refl, sym, ap}
 use Rattle.slave.specs.Answer.{outcomeOf}
 use Rattle.slave.specs.declared.Outcome.{Outcome}
 use Rattle.lines.specs.Log.{openedBy}
-use Rattle.lines.proofs.Putting.{at-front, refront}
+use Rattle.text.proofs.Putting.{placed-puts, at-front, refront}
 use Rattle.lines.proofs.opened.Statement.{statement}
 use Rattle.lines.proofs.opened.Tie as tie
 
@@ -25,13 +25,13 @@ returns : tie.Need-returns
 returns c =
     let a = c .before .before .before .before .before .args in
     let e = c .before .before .enum-told .given .1 in
-    (refl, sym (ap (λ (o : Outcome). outcomeOf o) e), refront (sym (ap (λ (o : Outcome). openedBy (a .site) (a .n) (outcomeOf o)) e)) (at-front (c .put-site .ensures)))
+    (refl, sym (ap (λ (o : Outcome). outcomeOf o) e), refront (sym (ap (λ (o : Outcome). openedBy (a .site) (a .n) (outcomeOf o)) e)) (at-front (placed-puts (c .put-site .ensures) (search needs))))
 
 returns-2 : tie.Need-returns-2
 returns-2 c =
     let a = c .before .before .before .before .before .before .args in
     let e = c .before .before .before .outcome .given .1 in
-    (refl, sym (ap (λ (o : Outcome). outcomeOf o) e), refront (sym (ap (λ (o : Outcome). openedBy (a .site) (a .n) (outcomeOf o)) e)) (at-front (c .put-refusal .ensures)))
+    (refl, sym (ap (λ (o : Outcome). outcomeOf o) e), refront (sym (ap (λ (o : Outcome). openedBy (a .site) (a .n) (outcomeOf o)) e)) (at-front (placed-puts (c .put-refusal .ensures) (search needs))))
 
 pub opened-spec : {M : Type 1} → statement M
 opened-spec =

@@ -11,9 +11,9 @@ use denote.Ref.{now}
 use Rattle.wire.specs.Reply.{Reply}
 use Rattle.slave.specs.Answer.{Result, Count}
 use Rattle.slave.specs.Calls.{packetOf}
-use Rattle.lines.specs.Line.{lineOf}
+use Rattle.text.specs.Line.{lineOf}
 use Rattle.lines.specs.Log.{recordOf}
-use Rattle.lines.proofs.Putting.{at-front, refront}
+use Rattle.text.proofs.Putting.{placed-puts, at-front, refront}
 use Rattle.lines.proofs.Capture.{record-cut, record-whole}
 use Rattle.lines.proofs.record_line.Statement.{statement}
 use Rattle.lines.proofs.record_line.Tie as tie
@@ -25,7 +25,7 @@ returns : tie.Need-returns
 returns c =
     let a = c .before .before .before .before .args in
     let e = sym (record-cut (a .s) (now (a .bytes)) (c .before .before .if1 .taken)) in
-    (ap (λ (r : Result). r .slave) e, refront (ap (λ (r : Result). lineOf (a .number) (r .reply)) e) (at-front (c .put-line .ensures)))
+    (ap (λ (r : Result). r .slave) e, refront (ap (λ (r : Result). lineOf (a .number) (r .reply)) e) (at-front (placed-puts (c .put-line .ensures) (search needs))))
 
 shared-slice-read-number32 : tie.Need-shared-slice-read-number32
 shared-slice-read-number32 c = search needs
@@ -66,7 +66,7 @@ returns-2 c =
     let same : packetOf (a .s) (take (length b - 4) (drop 4 b)) (c .before .before .before .before .before .number32 .result) ≡ recordOf (a .s) b =
     (λ j. packetOf (a .s) (part j) (tick j)) ∙ sym (record-whole (a .s) b (c .before .before .before .before .before .before .before .before .before .before .if1 .left)) in
     let p = c .before .before .before .packet .ensures in
-    (p .0 ∙ ap (λ (r : Result). r .slave) same, refront (ap (λ (r : Reply Count). lineOf (a .number) r) (p .1 ∙ ap (λ (r : Result). r .reply) same)) (at-front (c .put-line2 .ensures)))
+    (p .0 ∙ ap (λ (r : Result). r .slave) same, refront (ap (λ (r : Reply Count). lineOf (a .number) r) (p .1 ∙ ap (λ (r : Result). r .reply) same)) (at-front (placed-puts (c .put-line2 .ensures) (search needs))))
 
 pub record-line-spec : {M : Type 1} → statement M
 record-line-spec =

@@ -11,11 +11,11 @@ use denote.Ref.{now}
 use Rattle.wire.specs.Reply.{Reply}
 use Rattle.slave.specs.Answer.{Result, Count}
 use Rattle.slave.specs.declared.Slave.{Slave}
-use Rattle.lines.specs.Line.{lineOf}
+use Rattle.text.specs.Line.{lineOf}
 use Rattle.lines.specs.Log.{slaveAfter, linesOf}
-use Rattle.lines.specs.Puts.{Fronts}
+use Rattle.text.specs.Puts.{Fronts}
 use Rattle.lines.specs.Pieces.{mostRecords}
-use Rattle.lines.proofs.Putting.{nothing, front-then, retext, refront}
+use Rattle.text.proofs.Putting.{placed-puts, nothing, front-then, retext, refront}
 use Rattle.lines.proofs.Capture.{slave-more, lines-more, handled-bytes, handled-room, handled-number, whole-record, handled-all}
 use Rattle.lines.proofs.records.Statement.{statement}
 use Rattle.lines.proofs.records.Tie as tie
@@ -109,7 +109,7 @@ loop-again c =
     let l = c .before .before .before .before .before .before .before .before .before .before .before .before .before .loop in
     let i = now (a .input) in
     let p = c .before .before .before .before .before .packet .ensures in
-    let t = c .before .before .before .put-line .ensures in
+    let t = placed-puts (c .before .before .before .put-line .ensures) (omega arith) in
     let same = whole-record i (a .s) (l .after) (l .done) (l .used) (c .before .before .before .before .before .before .before .number32 .result) (l .inv .0) (l .inv .2) (omega arith) (c .before .before .before .before .before .before .before .number32 .ensures) in
     let replies = p .1 ∙ ap (λ (r : Result). r .reply) same in (
       p .0 ∙ ap (λ (r : Result). r .slave) same ∙ sym (slave-more (l .done) (a .s) i) ∙ ap (λ (n : ℕ). slaveAfter n (a .s) i) (sym (add-one (l .done))),

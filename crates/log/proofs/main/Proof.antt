@@ -4,7 +4,7 @@ use borrow.Author.Needs.{needs}
 use mathlib.Core.Path.{sym}
 use native.Mathlib.Omega.{arith}
 use lib.Seq.{length-take-le}
-use Rattle.lines.proofs.Putting.{fronts-within}
+use Rattle.text.proofs.Putting.{fronts-within}
 use Rattle.log.proofs.main.Statement.{statement}
 use Rattle.log.proofs.main.Tie as tie
 

@@ -3,7 +3,7 @@
 use borrow.Author.Needs.{needs}
 use mathlib.Core.Path.{sym}
 use lib.Seq.{length-take-le}
-use Rattle.lines.proofs.Putting.{fronts-within}
+use Rattle.text.proofs.Putting.{fronts-within}
 use Rattle.log.proofs.turn.Statement.{statement}
 use Rattle.log.proofs.turn.Tie as tie
 

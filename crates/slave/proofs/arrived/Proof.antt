@@ -12,7 +12,7 @@ use Rattle.judging.specs.Pointed.{Pointed}
 use Rattle.slave.specs.Step.{stepOf}
 use Rattle.slave.specs.Calls.{boardOf, inForce}
 use Rattle.judging.specs.declared.Board.{Board}
-use Rattle.judging.specs.declared.Judged.{Judged}
+use Rattle.judging.specs.Judgement.{Judgement, judgementOf}
 use Rattle.slave.proofs.Parts.{next-below}
 use Rattle.judging.proofs.Pointing.{packet-pointed}
 use Rattle.slave.proofs.Calling.{packet-steps, packet-refused}
@@ -20,7 +20,7 @@ use Rattle.slave.proofs.arrived.Statement.{statement}
 use Rattle.slave.proofs.arrived.Tie as tie
 
 judged : (c : tie.After-judge-packet) → let a = c .before .before .before .before .before .before .args in
-    c .judge-packet .result ≡ judgePacket (boardOf (a .s)) (inForce (a .s)) (now (a .p)) (a .tick)
+    judgementOf (c .judge-packet .result) ≡ judgePacket (boardOf (a .s)) (inForce (a .s)) (now (a .p)) (a .tick)
 judged c =
     let a = c .before .before .before .before .before .before .args in
     c .judge-packet .ensures
@@ -50,8 +50,8 @@ returns c =
     let k = sym (c .before .before .before .before .before .is-sound .ensures) ∙ c .before .before .before .before .if1 .taken in
     let q = packet-steps (a .s) (now (a .p)) (a .tick) k in
     let j = judged (c .before) in (
-      c .step .ensures .0 ∙ ap (λ (j : Judged). stepOf (a .s) j (a .tick) .slave) j ∙ sym (ap (λ (r : Result). r .slave) q),
-      c .step .ensures .1 ∙ ap (λ (j : Judged). stepOf (a .s) j (a .tick) .reply) j ∙ sym (ap (λ (r : Result). r .reply) q),
+      c .step .ensures .0 ∙ ap (λ (j : Judgement). stepOf (a .s) j (a .tick) .slave) j ∙ sym (ap (λ (r : Result). r .slave) q),
+      c .step .ensures .1 ∙ ap (λ (j : Judgement). stepOf (a .s) j (a .tick) .reply) j ∙ sym (ap (λ (r : Result). r .reply) q),
     )
 
 cold-slave-requires : tie.Need-cold-slave-requires

@@ -2,6 +2,7 @@
 -- Assumes nothing.
 use borrow.Author.Needs.{needs}
 use mathlib.Core.Path.{_≡_, sym, ap, subst, _∙_}
+use Rattle.judging.specs.Judgement.{judgementOf}
 use Rattle.judging.specs.Pointed.{Pointed}
 use Rattle.slave.specs.Step.{stepOf}
 use Rattle.judging.specs.declared.Judged.{Judged}
@@ -24,7 +25,7 @@ enum-known-j-2 : tie.Need-enum-known-j-2
 enum-known-j-2 c = search needs
 
 take-requires : tie.Need-take-requires
-take-requires c κs = subst (Pointed (c .before .before .before .args .s .n)) (c .before .j2 .given .1) (c .before .before .before .pre .1)
+take-requires c κs = subst (λ (j : Judged). Pointed (c .before .before .before .args .s .n) (judgementOf j)) (c .before .j2 .given .1) (c .before .before .before .pre .1)
 
 enum-known-j-3 : tie.Need-enum-known-j-3
 enum-known-j-3 c = search needs
@@ -34,8 +35,8 @@ unfolding stepOf
 returns c =
     let a = c .before .before .before .args in
     let e = c .before .enum-told .given .1 in (
-      c .count .ensures .0 ∙ sym (ap (λ (j : Judged). stepOf (a .s) j (a .tick) .slave) e),
-      c .count .ensures .1 ∙ sym (ap (λ (j : Judged). stepOf (a .s) j (a .tick) .reply) e),
+      c .count .ensures .0 ∙ sym (ap (λ (j : Judged). stepOf (a .s) (judgementOf j) (a .tick) .slave) e),
+      c .count .ensures .1 ∙ sym (ap (λ (j : Judged). stepOf (a .s) (judgementOf j) (a .tick) .reply) e),
     )
 
 returns-2 : tie.Need-returns-2
@@ -43,8 +44,8 @@ unfolding stepOf
 returns-2 c =
     let a = c .before .before .before .before .args in
     let e = c .before .before .j .given .1 in (
-      c .count2 .ensures .0 ∙ sym (ap (λ (j : Judged). stepOf (a .s) j (a .tick) .slave) e),
-      c .count2 .ensures .1 ∙ sym (ap (λ (j : Judged). stepOf (a .s) j (a .tick) .reply) e),
+      c .count2 .ensures .0 ∙ sym (ap (λ (j : Judged). stepOf (a .s) (judgementOf j) (a .tick) .slave) e),
+      c .count2 .ensures .1 ∙ sym (ap (λ (j : Judged). stepOf (a .s) (judgementOf j) (a .tick) .reply) e),
     )
 
 returns-3 : tie.Need-returns-3
@@ -52,8 +53,8 @@ unfolding stepOf
 returns-3 c =
     let a = c .before .before .before .before .args in
     let e = c .before .before .j2 .given .1 in (
-      c .take .ensures .0 ∙ sym (ap (λ (j : Judged). stepOf (a .s) j (a .tick) .slave) e),
-      c .take .ensures .1 ∙ sym (ap (λ (j : Judged). stepOf (a .s) j (a .tick) .reply) e),
+      c .take .ensures .0 ∙ sym (ap (λ (j : Judged). stepOf (a .s) (judgementOf j) (a .tick) .slave) e),
+      c .take .ensures .1 ∙ sym (ap (λ (j : Judged). stepOf (a .s) (judgementOf j) (a .tick) .reply) e),
     )
 
 returns-4 : tie.Need-returns-4
@@ -61,7 +62,7 @@ unfolding stepOf
 returns-4 c =
     let a = c .before .before .before .args in
     let e = c .before .j3 .given .1 in
-    (sym (ap (λ (j : Judged). stepOf (a .s) j (a .tick) .slave) e), sym (ap (λ (j : Judged). stepOf (a .s) j (a .tick) .reply) e))
+    (sym (ap (λ (j : Judged). stepOf (a .s) (judgementOf j) (a .tick) .slave) e), sym (ap (λ (j : Judged). stepOf (a .s) (judgementOf j) (a .tick) .reply) e))
 
 pub step-spec : {M : Type 1} → statement M
 step-spec =

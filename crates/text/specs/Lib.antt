@@ -1,0 +1,5 @@
+-- The definitions of crate `text`, in reading order.
+pub mod Decimal
+pub mod Words
+pub mod Line
+pub mod Puts
