@@ -87,8 +87,18 @@ fn save(slave: &Slave, out: &mut [u8]) -> Result<(), u8> {
 }
 
 #[inline(never)]
+fn nibbles_save(slave: &Slave, out: &mut [u8]) -> Result<(), u8> {
+    saved::save_with(register_by_nibbles, slave, out)
+}
+
+#[inline(never)]
 fn resume(block: &[u8], s: &Slave) -> Change {
     saved::resume(block, s.profile, s.n, s.site, s.tad).into()
+}
+
+#[inline(never)]
+fn nibbles_resume(block: &[u8], s: &Slave) -> Change {
+    saved::resume_with(register_by_nibbles, block, s.profile, s.n, s.site, s.tad).into()
 }
 
 // ---- Measuring
@@ -281,8 +291,12 @@ fn saves(slaves: &[Slave]) {
     let blocks: Vec<[u8; 38]> = slaves
         .iter()
         .map(|slave| {
-            let (mut ours, mut plain) = ([0; 38], [0; 38]);
-            assert!(vikombare::save(*slave, &mut ours) == 0 && save(slave, &mut plain).is_ok() && ours == plain, "{slave:?}");
+            let mut ours = [0; 38];
+            assert!(vikombare::save(*slave, &mut ours) == 0, "{slave:?}");
+            for call in [save, nibbles_save] {
+                let mut plain = [0; 38];
+                assert!(call(slave, &mut plain).is_ok() && plain == ours, "{slave:?}");
+            }
             ours
         })
         .collect();
@@ -291,14 +305,20 @@ fn saves(slaves: &[Slave]) {
         vikombare::resume(&blocks[k], profile, n, site, tad)
     };
     for (k, slave) in slaves.iter().enumerate() {
-        assert!(ours(k) == Change { slave: *slave, number: 0 } && resume(&blocks[k], slave) == ours(k), "{slave:?}");
+        let plain = [resume, nibbles_resume].map(|call| call(&blocks[k], slave));
+        assert!(ours(k) == Change { slave: *slave, number: 0 } && plain == [ours(k); 2], "{slave:?}");
     }
-    let (mut first, mut second) = ([0; 38], [0; 38]);
-    let saved = best(
-        ROUNDS,
-        vec![candidate("", |k| vikombare::save(slaves[k], black_box(&mut first))), candidate("", |k| save(&slaves[k], black_box(&mut second)))],
-    );
-    row("save", [Some(saved[0]), Some(saved[1])], [None; 2]);
-    let resumed = best(ROUNDS, vec![candidate("", ours), candidate("", |k| resume(&blocks[k], &slaves[k]))]);
-    row("resume", [Some(resumed[0]), Some(resumed[1])], [None; 2]);
+    let (mut first, mut second, mut third) = ([0; 38], [0; 38], [0; 38]);
+    let saved = vec![
+        candidate("", |k| vikombare::save(slaves[k], black_box(&mut first))),
+        candidate("", |k| save(&slaves[k], black_box(&mut second))),
+        candidate("", |k| nibbles_save(&slaves[k], black_box(&mut third))),
+    ];
+    let resumed =
+        vec![candidate("", ours), candidate("", |k| resume(&blocks[k], &slaves[k])), candidate("", |k| nibbles_resume(&blocks[k], &slaves[k]))];
+    for (what, candidates) in [("save", saved), ("resume", resumed)] {
+        let figures = best(ROUNDS, candidates);
+        row(&format!("{what}, byte table"), [Some(figures[0]), Some(figures[1])], [None; 2]);
+        row(&format!("{what}, the same nibble tables"), [Some(figures[0]), Some(figures[2])], [None; 2]);
+    }
 }

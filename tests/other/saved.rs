@@ -44,22 +44,21 @@ pub const TRAILER: usize = 8;
 pub const BLOCK: usize = 38;
 
 /// A slave's parts in the body's order, big-endian.
-pub fn body(s: &Slave) -> Vec<u8> {
+pub fn body(s: &Slave) -> [u8; BODY] {
     let next = rule(s.next, SaveLabelSwapped, s.next.swap_bytes());
-    [
-        &[s.phase, s.profile][..],
-        &s.n.to_be_bytes(),
-        &s.site.to_be_bytes(),
-        &s.tad.to_be_bytes(),
-        &s.od.to_be_bytes(),
-        &s.frequency.to_be_bytes(),
-        &s.power.to_be_bytes(),
-        &next.to_be_bytes(),
-        &[s.pending, s.index],
-        &s.sts.to_be_bytes(),
-        &s.md.to_be_bytes(),
-    ]
-    .concat()
+    let mut body = [0; BODY];
+    (body[0], body[1]) = (s.phase, s.profile);
+    body[2..4].copy_from_slice(&s.n.to_be_bytes());
+    body[4..6].copy_from_slice(&s.site.to_be_bytes());
+    body[6..10].copy_from_slice(&s.tad.to_be_bytes());
+    body[10..12].copy_from_slice(&s.od.to_be_bytes());
+    body[12..16].copy_from_slice(&s.frequency.to_be_bytes());
+    body[16..18].copy_from_slice(&s.power.to_be_bytes());
+    body[18..20].copy_from_slice(&next.to_be_bytes());
+    (body[20], body[21]) = (s.pending, s.index);
+    body[22..26].copy_from_slice(&s.sts.to_be_bytes());
+    body[26..].copy_from_slice(&s.md.to_be_bytes());
+    body
 }
 
 fn u16_at(b: &[u8], at: usize) -> u16 {
@@ -99,11 +98,19 @@ pub fn sealed(mut bytes: Vec<u8>) -> Vec<u8> {
 
 /// Save: 15, 18.
 pub fn save(s: &Slave, out: &mut [u8]) -> Result<(), u8> {
+    save_with(register, s, out)
+}
+
+/// Save over a check register of the caller's choice.
+pub fn save_with(register: impl Fn(&[u8]) -> u32, s: &Slave, out: &mut [u8]) -> Result<(), u8> {
     let distance = rule(BODY, SaveOtherDistance, BLOCK) as u16;
-    let covered = [&body(s)[..], &s.site.to_be_bytes(), &distance.to_be_bytes()].concat();
-    let mut block = sealed(covered);
-    let check = rule(0, SaveCheckInverted, 0xFF);
-    block[BLOCK - 1] ^= check;
+    let mut block = [0; BLOCK];
+    block[..BODY].copy_from_slice(&body(s));
+    block[30..32].copy_from_slice(&s.site.to_be_bytes());
+    block[32..34].copy_from_slice(&distance.to_be_bytes());
+    let check = register(&block[..34]);
+    block[34..].copy_from_slice(&check.to_be_bytes());
+    block[37] ^= rule(0, SaveCheckInverted, 0xFF);
     let cold = if s.sound() { Ok(()) } else { Err(15) };
     let short = if out.len() < rule(BLOCK, SaveNeedsMore, BLOCK + 1) { Err(18) } else { Ok(()) };
     let answer = rule(cold.and(short), SaveRoomFirst, short.and(cold));
@@ -118,7 +125,7 @@ pub fn save(s: &Slave, out: &mut [u8]) -> Result<(), u8> {
 }
 
 /// The slave that a block holds, if it is a sound block.
-fn held(block: &[u8]) -> Option<Slave> {
+fn held(register: impl Fn(&[u8]) -> u32, block: &[u8]) -> Option<Slave> {
     let block = rule(block, BlockAtFront, &block[..block.len().min(BLOCK)]);
     let end = block.len().checked_sub(TRAILER)?;
     let site = u16_at(block, end);
@@ -128,17 +135,22 @@ fn held(block: &[u8]) -> Option<Slave> {
     }
     let start = rule(end.checked_sub(distance), DistanceCut, Some(end.saturating_sub(distance)))?;
     let body = block.get(start..start + BODY)?;
-    let covered = rule(block[start..].to_vec(), CheckOfBody, [body, &block[end + 4..]].concat());
     let s = parts(body);
     let sound = rule(s.sound(), AnyPhase, s.phase != 0 && Slave { phase: LOCKED, ..s }.sound());
-    let check = rule(register(&covered) == 0, CheckUnjudged, true);
+    let left = if rule(false, CheckOfBody, true) { register(&[body, &block[end + 4..]].concat()) } else { register(&block[start..]) };
+    let check = rule(left == 0, CheckUnjudged, true);
     let same_site = rule(site == s.site, TrailerSiteUnjudged, true);
     (check && same_site && sound).then_some(s)
 }
 
 /// Resume on a board of these settings: 15, 16, 17. What is left is the cold slave, a fresh hunting one, or the block's.
 pub fn resume(block: &[u8], profile: u8, n: u16, site: u16, tad: u32) -> (Slave, Result<(), u8>) {
-    let s = held(block);
+    resume_with(register, block, profile, n, site, tad)
+}
+
+/// Resume over a check register of the caller's choice.
+pub fn resume_with(register: impl Fn(&[u8]) -> u32, block: &[u8], profile: u8, n: u16, site: u16, tad: u32) -> (Slave, Result<(), u8>) {
+    let s = held(register, block);
     let Ok(fresh) = Slave::start(profile, n, site, tad) else {
         let left = rule(COLD, RefusedSettingsKept, Slave::hunting(profile, n, site, tad));
         return (left, Err(if s.is_none() { rule(15, SettingsLast, 16) } else { 15 }));
