@@ -1,9 +1,10 @@
 //! The proved code's calls, as crate `probe` exports them, and the other implementation's results in the same flat form.
 //! A slice is passed as its address and its length. A refused call has its number and zeros.
 
-use crate::answers::{Answer, Step};
+use crate::answers::Step;
 use crate::ground;
 use crate::slave::Slave;
+use crate::vikombare::Stepped;
 
 #[repr(C)]
 #[derive(Clone, Copy, Debug, Default, PartialEq)]
@@ -29,39 +30,6 @@ pub struct Times {
 pub struct Label {
     pub number: u8,
     pub value: u16,
-}
-
-/// A mark: 0 none, 1 untimed, 2 late, 3 released in profile 0, 4 released in profile 1; then its times.
-#[repr(C)]
-#[derive(Clone, Copy, Debug, Default, PartialEq)]
-pub struct Mark {
-    pub kind: u8,
-    pub reference: u32,
-    pub emission: u32,
-    pub modulation: u32,
-    pub wait: i64,
-}
-
-/// The reply to a packet; see `answers::Answer`.
-#[repr(C)]
-#[derive(Clone, Copy, Debug, Default, PartialEq)]
-pub struct Reply {
-    pub number: u8,
-    pub has_label: bool,
-    pub label: u16,
-    pub notice: u8,
-    pub ignored: u8,
-    pub turn: bool,
-    pub mark: Mark,
-    pub has_place: bool,
-    pub place: u16,
-}
-
-#[repr(C)]
-#[derive(Clone, Copy, Debug, PartialEq)]
-pub struct Stepped {
-    pub slave: Slave,
-    pub reply: Reply,
 }
 
 #[link(name = "probe", kind = "static")]
@@ -122,14 +90,10 @@ pub fn stepped(slave: Slave, p: &[u8], tick: u32) -> Stepped {
     unsafe { probe_packet(slave, p.as_ptr(), p.len(), tick) }
 }
 
-/// A packet by value. A release of the other profile has no flat form: it shows as its own kind of mark.
+/// A packet by value.
 pub fn packet(slave: Slave, p: &[u8], tick: u32) -> Step {
     let Stepped { slave, reply } = stepped(slave, p, tick);
-    let Reply { number, has_label, label, notice, ignored, turn, mark, has_place, place } = reply;
-    let Mark { kind, reference, emission, modulation, wait } = mark;
-    let mark = if kind == 3 + slave.profile { 3 } else { kind + u8::from(kind == 3) };
-    let times = ground::Times { reference, emission, modulation, wait };
-    Step { slave, answer: Answer { number, has_label, label, notice, ignored, turn, mark, times, has_place, place } }
+    Step { slave, answer: reply.flat(slave.profile) }
 }
 
 // The other implementation's results in the same form.

@@ -180,7 +180,7 @@ pub fn write(out: &mut [u8], n: &ground::Notice, field: &[u8]) -> u8 {
 
 impl Reply {
     /// The flat answer of a slave of this profile. A release of the other profile has no flat form: it shows as another kind of mark.
-    fn flat(self, profile: u8) -> Answer {
+    pub fn flat(self, profile: u8) -> Answer {
         let Reply { number, has_label, label, notice, ignored, turn, has_place, place, mark } = self;
         let MarkTimes { reference, emission, modulation, wait } = mark.times;
         let mark = match (mark.kind, profile) {
