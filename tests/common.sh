@@ -4,8 +4,7 @@ mkdir -p "$out"
 
 # The proved code: what a board links as target/staticlib/libvikombare.a, and calls for tests as target/staticlib/libprobe.a.
 proved() {
-    rt staticlib vikombare
-    rt staticlib probe
+    rt staticlib vikombare && rt staticlib probe
 }
 
 # The log program as target/bin/log.
