@@ -22,7 +22,7 @@ mod vikombare;
 use answers::{Change, Step};
 use ground::Notice;
 use inputs::Random;
-use measure::{best, candidate, full_field, register_by_bytes, register_by_nibbles, Candidate, INPUTS, ROUNDS};
+use measure::{best, candidate, figure, full_field, ratio, register_by_bytes, register_by_nibbles, Candidate, INPUTS, ROUNDS};
 use slave::{Numbers, Reply, Slave, LOCKED, UNKNOWN};
 use std::hint::black_box;
 use std::time::Instant;
@@ -105,12 +105,9 @@ fn nibbles_resume(block: &[u8], s: &Slave) -> Change {
 
 /// A row: by value and in place, each the proved code's figure and the plain one's.
 fn row(what: &str, by_value: [Option<f64>; 2], in_place: [Option<f64>; 2]) {
-    let figure = |figure: Option<f64>| figure.map_or(String::new(), |nanoseconds| format!("{nanoseconds:.1}"));
-    let cells = |[proved, plain]: [Option<f64>; 2]| {
-        let ratio = proved.zip(plain).map_or(String::new(), |(proved, plain)| format!("{:.2}", proved / plain));
-        format!("{} | {} | {ratio}", figure(proved), figure(plain))
-    };
-    println!("| {what} | {} | {} |", cells(by_value), cells(in_place));
+    let [by_value, in_place] = [by_value, in_place].map(|[proved, plain]| [figure(proved), figure(plain), ratio(proved, plain)]);
+    let figures = by_value.iter().chain(&in_place).map(String::as_str);
+    measure::row(&[what].into_iter().chain(figures).collect::<Vec<_>>());
 }
 
 /// Calls of a kind, each with its own slave and packet.

@@ -391,7 +391,7 @@ impl Comparison {
             Some((_, Against { what, ours, book })) => text += &format!("\n  {what}\n  ours {ours}\n  book {book}"),
             None => text += "\n  does not fail again",
         }
-        Difference { text, calls: shortest.len(), again: found.is_some() }
+        Difference { text, whole: steps.len(), calls: shortest.len(), again: found.is_some() }
     }
 }
 

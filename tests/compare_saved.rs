@@ -49,7 +49,7 @@ fn main() -> ExitCode {
 /// Every fault in turn: each must make a difference.
 fn find_faults(seed_of_runs: u64, count: u64) -> bool {
     let search = Search { by: "", cases: required, longest: LONGEST, run: &|comparison: &mut Sequences| comparison.run(count) };
-    let missed = FAULTS.iter().filter(|(fault, what)| !found(seed_of_runs, *fault, what, seed, &search)).count();
+    let missed = FAULTS.iter().filter(|(fault, what)| found(seed_of_runs, *fault, what, seed, &search).is_none()).count();
     println!("{} seeded faults of save and resume: {missed} not found", FAULTS.len());
     missed == 0
 }

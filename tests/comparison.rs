@@ -47,7 +47,8 @@ pub type Cases = Vec<(&'static str, &'static str, Vec<i64>)>;
 pub struct Difference {
     /// Seed, call, input and both results.
     pub text: String,
-    /// How many calls the shortest failing sequence has that was found, and whether it failed again.
+    /// How many calls the failing sequence has, how many the shortest that was found, and whether that one fails again.
+    pub whole: usize,
     pub calls: usize,
     pub again: bool,
 }
@@ -90,7 +91,7 @@ impl<S: Default> Comparison<S> {
 
     /// A difference of this call alone.
     pub fn differs(&self, text: String) -> Difference {
-        Difference { text: format!("seed {} call {}: {text}", self.seed, self.calls), calls: 1, again: true }
+        Difference { text: format!("seed {} call {}: {text}", self.seed, self.calls), whole: 1, calls: 1, again: true }
     }
 
     /// Counts a call and holds its two results to each other.
@@ -144,22 +145,19 @@ pub struct Search<'a, S> {
     pub run: &'a dyn Fn(&mut Comparison<S>) -> Compared,
 }
 
-/// Seeds a fault: it must make a difference, and the failing sequence must become short and still fail. Prints and gives whether it was found.
-pub fn found<F, S: Default>(seed_of_runs: u64, fault: F, what: &str, seed: fn(Option<F>), search: &Search<S>) -> bool {
+/// Seeds a fault: it must make a difference, and the failing sequence must become short and still fail. Prints what was found, and gives how long the
+/// sequence was before.
+pub fn found<F, S: Default>(seed_of_runs: u64, fault: F, what: &str, seed: fn(Option<F>), search: &Search<S>) -> Option<usize> {
     let &Search { by, cases, longest, run } = search;
     let mut comparison = Comparison::new(seed_of_runs, &cases());
     seed(Some(fault));
     let result = run(&mut comparison);
     seed(None);
-    match result {
-        Ok(()) => println!("NOT FOUND{by}: {what}"),
-        Err(Difference { text, calls, again }) if calls > longest || !again => {
-            println!("NOT SHORTENED{by}: {what}: {calls} calls, fails again: {again}\n{text}");
-        }
-        Err(Difference { text, calls, .. }) => {
-            println!("found{by} at call {}, shortest sequence of {calls}: {what}\n{text}", comparison.calls);
-            return true;
-        }
-    }
-    false
+    let Err(Difference { text, whole, calls, again }) = result else {
+        println!("NOT FOUND{by}: {what}");
+        return None;
+    };
+    let short = calls <= longest && again;
+    println!("{}{by}, {whole} calls shortened to {calls}: {what}\n{text}", if short { "found" } else { "NOT SHORTENED" });
+    short.then_some(whole)
 }

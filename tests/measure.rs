@@ -114,7 +114,22 @@ pub fn table(what: &str, candidates: Vec<Candidate>) {
     let names: Vec<&str> = candidates.iter().map(|(name, _)| *name).collect();
     let best = best(ROUNDS, candidates);
     for (k, (plain, name)) in best.iter().zip(names).enumerate().skip(1) {
-        let (what, proved) = if k == 1 { (what, format!("{:.1}", best[0])) } else { ("", String::new()) };
-        println!("| {what} | {proved} | {plain:.1} | {:.2} | {name} |", best[0] / plain);
+        let (what, proved) = if k == 1 { (what, Some(best[0])) } else { ("", None) };
+        row(&[what, &figure(proved), &figure(Some(*plain)), &ratio(Some(best[0]), Some(*plain)), name]);
     }
+}
+
+/// A row of a table; an empty cell is one space.
+pub fn row(cells: &[&str]) {
+    println!("|{}", cells.iter().map(|cell| if cell.is_empty() { String::from(" |") } else { format!(" {cell} |") }).collect::<String>());
+}
+
+/// Nanoseconds, where there are any.
+pub fn figure(nanoseconds: Option<f64>) -> String {
+    nanoseconds.map_or(String::new(), |nanoseconds| format!("{nanoseconds:.1}"))
+}
+
+/// The proved code's nanoseconds by the plain one's, where there are both.
+pub fn ratio(proved: Option<f64>, plain: Option<f64>) -> String {
+    proved.zip(plain).map_or(String::new(), |(proved, plain)| format!("{:.2}", proved / plain))
 }

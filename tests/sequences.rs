@@ -64,7 +64,7 @@ impl Sequences {
         let fails = |calls: &[Call]| calls::disagreement(calls).map(|found| found.at + 1);
         let shortest = shrink::shortest(&self.state.calls, fails, calls::joined, calls::simpler);
         let found = calls::disagreement(&shortest);
-        let handed = usize::from(matches!(shortest.first(), Some(Call::Hand(_))));
+        let made = |calls: &[Call]| calls.iter().filter(|call| !matches!(call, Call::Hand(_))).count();
         let mut text = format!("seed {} call {}; the shortest failing sequence found:", self.seed, self.calls);
         for (number, call) in (1..).zip(&shortest) {
             text += &format!("\n  {number}. {call:?}");
@@ -73,6 +73,6 @@ impl Sequences {
             Some(found) => text += &format!("\n  with {:?}\n  ours  {:?}\n  other {:?}", found.slave, found.ours, found.other),
             None => text += "\n  does not fail again",
         }
-        Difference { text, calls: shortest.len() - handed, again: found.is_some() }
+        Difference { text, whole: made(&self.state.calls), calls: made(&shortest), again: found.is_some() }
     }
 }
