@@ -85,14 +85,9 @@ fn find_faults(seed_of_runs: u64, count: u64) -> bool {
             count_in(1, found(seed_of_runs, fault, what, seed, &book));
         }
     }
-    println!(
-        "{} seeded faults of the slave, {} of them tried by the book too: {missed} not found; sequences of up to {} calls shortened to at most {LONGEST}, \
-         runs of up to {} to at most {LONGEST_RUN}",
-        FAULTS.len(),
-        SPOILS_THE_BOOK.len(),
-        before[0],
-        before[1]
-    );
+    let (faults, by_book, [calls, run]) = (FAULTS.len(), SPOILS_THE_BOOK.len(), before);
+    print!("{faults} seeded faults of the slave, {by_book} of them tried by the book too: {missed} not found; ");
+    println!("sequences of up to {calls} calls shortened to at most {LONGEST}, runs of up to {run} to at most {LONGEST_RUN}");
     // what is short from the start shows nothing of the shortening
     missed == 0 && before[0] > LONGEST && before[1] > LONGEST_RUN
 }
