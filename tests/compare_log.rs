@@ -2,6 +2,8 @@
 //!
 //! compare_log PROGRAM [SEED [COUNT]]         random captures, at most 20,000; fails on a difference or on a word never printed
 //! compare_log PROGRAM faults [SEED [COUNT]]  seeds each fault into the other implementation; fails if one is not found
+//!
+//! A difference is printed with the seed; the shortest capture found that shows it is kept in a file.
 
 #![allow(dead_code)] // parts of the shared modules are for other comparisons alone
 
@@ -14,6 +16,7 @@ mod ground;
 mod inputs;
 #[path = "other/log.rs"]
 mod log;
+mod shrink;
 #[path = "other/slave.rs"]
 mod slave;
 
@@ -21,7 +24,7 @@ use comparison::{covered, exit, Asked, Cases, Compared, Comparison};
 use ground::Notice;
 use inputs::Random;
 use log::faults::{seed, FAULTS};
-use log::SETTINGS;
+use log::{RECORD, SETTINGS};
 use std::io::{Read, Write};
 use std::os::fd::{AsRawFd, RawFd};
 use std::process::{ChildStdin, Command, ExitCode, Stdio};
@@ -30,6 +33,9 @@ const COUNT: u64 = 2_000;
 const FAULT_COUNT: u64 = 300;
 /// A capture takes a process and its pipes.
 const MOST: u64 = 20_000;
+
+/// The records of the shortest captures that show the seeded faults, at most.
+const LONGEST: usize = 4;
 
 fn main() -> ExitCode {
     let mut words = std::env::args().skip(1);
@@ -278,6 +284,19 @@ fn delivery(r: &mut Random, length: usize) -> Delivery {
     }
 }
 
+/// The shortest capture found, by leaving records out, on which the program and the other implementation still differ; and its records.
+fn shortened(program: &str, capture: &[u8], how: Delivery) -> (Vec<u8>, usize) {
+    let (settings, records) = capture.split_at(capture.len().min(SETTINGS));
+    let records: Vec<&[u8]> = records.chunks(RECORD).collect();
+    let with = |records: &[&[u8]]| [settings, &records.concat()].concat();
+    let differ = |records: &[&[u8]]| {
+        let capture = with(records);
+        (run(program, &capture, how, &mut Random(1)) != log::log(&capture)).then_some(records.len())
+    };
+    let shortest = shrink::shortest(&records, differ, |_, _| Vec::new(), |_| Vec::new());
+    (with(&shortest), shortest.len())
+}
+
 fn compare(comparison: &mut Comparison, program: &str, count: u64) -> Compared {
     while comparison.calls < count {
         comparison.calls += 1;
@@ -286,12 +305,12 @@ fn compare(comparison: &mut Comparison, program: &str, count: u64) -> Compared {
         let how = delivery(r, capture.len());
         let (ours, other) = (run(program, &capture, how, r), log::log(&capture));
         if ours != other {
+            let (shortest, records) = shortened(program, &capture, how);
             let file = "target/tests/compare_log.bin";
-            std::fs::write(file, &capture).expect("the capture is kept");
-            let at = ours.iter().zip(&other).take_while(|(a, b)| a == b).count();
-            let line = other[..at].iter().filter(|b| **b == b'\n').count();
-            let show = |text: &[u8]| String::from_utf8_lossy(text).lines().nth(line).unwrap_or("").to_string();
-            return Err(comparison.differs(format!("{file}, {how:?}: line {line} is {:?}, the other has {:?}", show(&ours), show(&other))));
+            std::fs::write(file, &shortest).expect("the capture is kept");
+            let [ours, other] =
+                [run(program, &shortest, how, &mut Random(1)), log::log(&shortest)].map(|text| String::from_utf8_lossy(&text).into_owned());
+            return Err(comparison.differs(format!("{records} records, {how:?}, kept in {file}\nours\n{ours}other\n{other}")));
         }
         kinds(&ours, |what, value| comparison.saw("log", what, value));
     }
@@ -308,19 +327,22 @@ fn find_faults(program: &str, from: u64, count: u64) -> bool {
             (capture, ours)
         })
         .collect();
-    let differs = || printed.iter().any(|(capture, ours)| log::log(capture) != *ours);
-    if differs() {
+    let differing = || printed.iter().find(|(capture, ours)| log::log(capture) != *ours);
+    if differing().is_some() {
         println!("a difference without a fault");
         return false;
     }
     let mut missed = 0;
     for (fault, what) in FAULTS {
         seed(Some(*fault));
-        if !differs() {
-            println!("NOT FOUND: {what}");
-            missed += 1;
-        }
+        let records = differing().map(|(capture, _)| shortened(program, capture, Delivery::Pieces(1 << 20)).1);
         seed(None);
+        match records {
+            Some(records) if records <= LONGEST => println!("found, shortest capture of {records} records: {what}"),
+            Some(records) => println!("NOT SHORTENED, {records} records: {what}"),
+            None => println!("NOT FOUND: {what}"),
+        }
+        missed += usize::from(records.is_none_or(|records| records > LONGEST));
     }
     println!("{} seeded faults of the log: {missed} not found", FAULTS.len());
     missed == 0

@@ -152,7 +152,7 @@ impl Log {
     /// The end line.
     pub fn end(self, out: &mut Vec<u8>) {
         out.extend(b"end ");
-        number(out, rule(self.records, EndCountsAccepted, self.records - self.refused));
+        number(out, rule(self.records, EndCountsAccepted, self.records.saturating_sub(self.refused)));
         out.extend(rule(&b"\n"[..], NoLastLineFeed, b""));
     }
 }
