@@ -8,11 +8,11 @@ use addressing::Walked;
 use cadence::Answer;
 use notice::Notice;
 use notice::Reading;
-use notice::Written;
 use times::A110Release;
 use times::DvbRelease;
 use times::Periods;
 use times::Steps;
+use writer::Written;
 ghost use mathlib.Core.Path.{_≡_};
 ghost use lib.ListN.{length};
 ghost use Rattle.wire.specs.Standards.{dvbSecond, a110Second};
@@ -23,7 +23,7 @@ ghost use Rattle.cadence.specs.Cadence.{admits};
 ghost use Rattle.cadence.specs.Label.{labelOf, within};
 ghost use Rattle.cadence.specs.MobileFrame.{mobilePlace};
 ghost use Rattle.notice.specs.Reader.{readOf, addressingPart};
-ghost use Rattle.notice.specs.Writer.{writeRefusal, writeOf};
+ghost use Rattle.writer.specs.Writer.{writeRefusal, writeOf};
 ghost use Rattle.probe.specs.Flat.{flatReading, flatSettings, flatTimes, flatLabel};
 
 #[repr(C)]
@@ -127,7 +127,7 @@ pub extern "C" fn probe_write(
         md: Steps(md),
         tps: tps,
     };
-    match notice::write_notice(out, n, field) {
+    match writer::write_notice(out, n, field) {
         Written::Done => 0,
         Written::Refused(k) => k,
     }
