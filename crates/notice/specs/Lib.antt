@@ -2,4 +2,3 @@
 pub mod Mip
 pub mod Long
 pub mod Reader
-pub mod Writer

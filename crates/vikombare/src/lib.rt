@@ -5,16 +5,16 @@ pub mod reply;
 use crate::reply::PacketReply;
 use notice::Notice;
 use notice::Reading;
-use notice::Written;
 use slave::Shifted;
 use slave::Slave;
 use times::Periods;
 use times::Steps;
+use writer::Written;
 ghost use mathlib.Core.Path.{_≡_};
 ghost use lib.ListN.{length};
 ghost use Rattle.wire.specs.Reply.{numberOf};
 ghost use Rattle.notice.specs.Reader.{readOf, addressingPart};
-ghost use Rattle.notice.specs.Writer.{writeRefusal, writeOf};
+ghost use Rattle.writer.specs.Writer.{writeRefusal, writeOf};
 ghost use Rattle.slave.specs.Answer.{outcomeOf};
 ghost use Rattle.slave.specs.Calls.{startOf, packetOf, numbersOf, gapOf};
 ghost use Rattle.saved.specs.Block.{saveReply, saveOf, resumeOf};
@@ -193,7 +193,7 @@ pub extern "C" fn vikombare_read(p: &[u8]) -> NoticeRead
 pub extern "C" fn vikombare_write(out: &mut [u8], n: Notice, field: &[u8]) -> u8
     ensures { λ r. ⌜ (r ≡ writeRefusal (length (now (out .entry))) n (now (field .entry))) × (now (out .exit) ≡ writeOf (now (out .entry)) n (now (field .entry))) ⌝ }
 {
-    match notice::write_notice(out, n, field) {
+    match writer::write_notice(out, n, field) {
         Written::Done => 0,
         Written::Refused(k) => k,
     }

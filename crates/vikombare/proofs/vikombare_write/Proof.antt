@@ -4,8 +4,8 @@ use borrow.Author.Needs.{needs}
 use mathlib.Core.Path.{sym, ap, _∙_}
 use Rattle.wire.specs.Reply.{numberOf}
 use Rattle.wire.proofs.Tests.{number-reply}
-use Rattle.notice.specs.Writer.{writeReply, writtenReply}
-use Rattle.notice.specs.declared.Written.{Written}
+use Rattle.writer.specs.Writer.{writeReply, writtenReply}
+use Rattle.writer.specs.declared.Written.{Written}
 use Rattle.vikombare.proofs.vikombare_write.Statement.{statement}
 use Rattle.vikombare.proofs.vikombare_write.Tie as tie
 

@@ -27,14 +27,14 @@ use Rattle.check_value.proofs.Sealing.{sealed-length}
 use Rattle.check_value.proofs.Laws.{leaves-zero, zero-only, flipped, flip-differs, misses-no-bit}
 use Rattle.times.specs.Release.{inSecond}
 use Rattle.addressing.specs.Entries.{wellFormed}
 use Rattle.notice.specs.Mip.{individualAddressingLength, addressingField, throughCheck, noticeOf}
-use Rattle.notice.specs.Long.{Writable}
+use Rattle.writer.specs.Writable.{Writable}
 use Rattle.notice.specs.Reader.{readRefusal, readOf, addressingOf}
-use Rattle.notice.specs.Writer.{writeRefusal, flagsOf, headOf, fieldsOf, stuffing, packetOf, writeOf}
+use Rattle.writer.specs.Writer.{writeRefusal, flagsOf, headOf, fieldsOf, stuffing, packetOf, writeOf}
 use Rattle.notice.specs.declared.Notice.{Notice}
 use Rattle.notice.proofs.Sound.{Sound, accepted-sound, sound-accepted, sound-reads, reads-sound}
-use Rattle.notice.proofs.Writing.{head-length, fields-length, length-stuffing, judged, write-fits, write-none}
-use Rattle.notice.proofs.Front.{head-again}
+use Rattle.writer.proofs.Writing.{head-length, fields-length, length-stuffing, judged, write-fits, write-none}
+use Rattle.writer.proofs.Front.{head-again}
 
 -- ---- written, then read
 

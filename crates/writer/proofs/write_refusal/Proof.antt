@@ -1,4 +1,4 @@
--- `notice::write_refusal` meets its contract.
+-- `writer::write_refusal` meets its contract.
 -- Assumes nothing.
 use borrow.Author.Needs.{needs}
 use mathlib.Core.Path.{_≡_, sym, ap, _∙_}
@@ -6,11 +6,11 @@ use borrow.Author.Tests.{not-true, not-false}
 use Rattle.wire.proofs.Tests.{tests}
 use native.Mathlib.Omega.{arith}
 use denote.Ref.{now}
-use Rattle.notice.specs.Long.{Writable}
-use Rattle.notice.specs.Writer.{writeRefusal}
-use Rattle.notice.proofs.Writing.{write-10, write-sts, write-md, write-none}
-use Rattle.notice.proofs.write_refusal.Statement.{statement}
-use Rattle.notice.proofs.write_refusal.Tie as tie
+use Rattle.writer.specs.Writable.{Writable}
+use Rattle.writer.specs.Writer.{writeRefusal}
+use Rattle.writer.proofs.Writing.{write-10, write-sts, write-md, write-none}
+use Rattle.writer.proofs.write_refusal.Statement.{statement}
+use Rattle.writer.proofs.write_refusal.Tie as tie
 
 returns : tie.Need-returns
 unfolding writeRefusal

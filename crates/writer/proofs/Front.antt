@@ -11,9 +11,9 @@ use borrow.Author.Tests.{leb-true, leb-false, le-leb, lt-leb}
 use Rattle.wire.specs.BigEndian.{be16, be16At, byte0, byte1}
 use Rattle.wire.proofs.Numbers.{of16, of24, of32}
 use Rattle.wire.proofs.Bytes.{Bytes, elements}
 use Rattle.notice.specs.Mip.{individualAddressingLength, noticeOf}
-use Rattle.notice.specs.Writer.{flagsOf, headOf}
+use Rattle.writer.specs.Writer.{flagsOf, headOf}
 use Rattle.notice.proofs.Sound.{Sound}
 
 -- flag and reserved bits make the two bytes again
 flags-again : (a b : ℕ) (t : Bool) → leb 128 a ≡ t → a < 256 → b < 256 → cond t (32768 + be16 a b % 32768) (be16 a b % 32768) ≡ be16 a b

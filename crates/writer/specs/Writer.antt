@@ -11,9 +11,9 @@ use Rattle.wire.specs.BigEndian.{byte0, byte1, byte2, byte3}
 use Rattle.check_value.specs.Register.{sealed}
 use Rattle.times.specs.Release.{inSecond}
 use Rattle.addressing.specs.Entries.{wellFormed}
 use Rattle.notice.specs.declared.Notice.{Notice}
-use Rattle.notice.specs.declared.Written.{Written}
-use Rattle.notice.specs.declared.Written.the-variants.{Done, Refused}
+use Rattle.writer.specs.declared.Written.{Written}
+use Rattle.writer.specs.declared.Written.the-variants.{Done, Refused}
 
 -- 18, 19, 8, 10, 11, for an output of this length
 unfoldable pub writeRefusal : ℕ → Notice → List ℕ → ℕ

@@ -1,4 +1,4 @@
--- `notice::write_notice` meets its contract.
+-- `writer::write_notice` meets its contract.
 -- Assumes nothing.
 use borrow.Author.Needs.{needs}
 use mathlib.Core.Path.{_≡_, sym, ap, _∙_}
@@ -6,12 +6,12 @@ use native.Mathlib.Omega.{arith}
 use lib.ListN.{length}
 use denote.Ref.{now}
 use Rattle.check_value.proofs.Sealing.{seal-fits}
-use Rattle.notice.specs.Writer.{writeOf, writeReply}
+use Rattle.writer.specs.Writer.{writeOf, writeReply}
 use Rattle.wire.specs.Reply.{refused}
 use Rattle.wire.proofs.Tests.{reply-refuses, reply-gives, kept-old, kept-new}
-use Rattle.notice.proofs.Writing.{write-fits, packet-put}
-use Rattle.notice.proofs.write_notice.Statement.{statement}
-use Rattle.notice.proofs.write_notice.Tie as tie
+use Rattle.writer.proofs.Writing.{write-fits, packet-put}
+use Rattle.writer.proofs.write_notice.Statement.{statement}
+use Rattle.writer.proofs.write_notice.Tie as tie
 
 write-refusal-requires : tie.Need-write-refusal-requires
 write-refusal-requires c κs = search needs

@@ -18,9 +18,9 @@ use Rattle.check_value.specs.Register.{register, sealed}
 use Rattle.check_value.proofs.Sealing.{sealed-length}
 use Rattle.times.specs.Release.{inSecond}
 use Rattle.addressing.specs.Entries.{wellFormed}
-use Rattle.notice.specs.Long.{Writable}
-use Rattle.notice.specs.Writer.{writeRefusal, headOf, fieldsOf, stuffing, packetOf}
+use Rattle.writer.specs.Writable.{Writable}
+use Rattle.writer.specs.Writer.{writeRefusal, headOf, fieldsOf, stuffing, packetOf}
 use Rattle.notice.specs.declared.Notice.{Notice}
 
 pub head-length : (n : Notice) (a : ℕ) → length (headOf n a) ≡ 21
 unfolding headOf

@@ -1,13 +1,13 @@
--- `notice::put_stuffing` meets its contract.
+-- `writer::put_stuffing` meets its contract.
 -- Assumes nothing.
 use borrow.Author.Needs.{needs}
 use mathlib.Core.Path.{sym, _∙_}
 use native.Mathlib.Omega.{arith}
 use denote.Ref.{now}
 use Rattle.wire.proofs.Puts.{put-fits}
-use Rattle.notice.proofs.Writing.{stuffing-length, stuffing-put}
-use Rattle.notice.proofs.put_stuffing.Statement.{statement}
-use Rattle.notice.proofs.put_stuffing.Tie as tie
+use Rattle.writer.proofs.Writing.{stuffing-length, stuffing-put}
+use Rattle.writer.proofs.put_stuffing.Statement.{statement}
+use Rattle.writer.proofs.put_stuffing.Tie as tie
 
 sub-rest : tie.Need-sub-rest
 sub-rest c = search needs

@@ -1,11 +1,11 @@
--- `notice::flags_of` meets its contract.
+-- `writer::flags_of` meets its contract.
 -- Assumes nothing.
 use borrow.Author.Needs.{needs}
 use mathlib.Core.Path.{_≡_, sym, ap}
 use mathlib.Core.Bool.{Bool, cond}
 use Prim.Native.Nat.{_+_}
-use Rattle.notice.proofs.flags_of.Statement.{statement}
-use Rattle.notice.proofs.flags_of.Tie as tie
+use Rattle.writer.proofs.flags_of.Statement.{statement}
+use Rattle.writer.proofs.flags_of.Tie as tie
 
 add-result : tie.Need-add-result
 add-result c = search needs

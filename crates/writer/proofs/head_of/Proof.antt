@@ -1,11 +1,11 @@
--- `notice::head_of` meets its contract.
+-- `writer::head_of` meets its contract.
 -- Assumes nothing.
 use borrow.Author.Needs.{needs}
 use mathlib.Core.Path.{_≡_, sym, ap, _∙_}
 use Rattle.wire.specs.BigEndian.{byte0, byte1}
-use Rattle.notice.specs.Writer.{headOf}
-use Rattle.notice.proofs.head_of.Statement.{statement}
-use Rattle.notice.proofs.head_of.Tie as tie
+use Rattle.writer.specs.Writer.{headOf}
+use Rattle.writer.proofs.head_of.Statement.{statement}
+use Rattle.writer.proofs.head_of.Tie as tie
 
 cast-pointer : tie.Need-cast-pointer
 cast-pointer c = search needs

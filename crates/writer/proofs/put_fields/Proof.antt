@@ -1,12 +1,12 @@
--- `notice::put_fields` meets its contract.
+-- `writer::put_fields` meets its contract.
 -- Assumes nothing.
 use borrow.Author.Needs.{needs}
 use mathlib.Core.Path.{_∙_}
 use denote.Ref.{now}
 use Rattle.wire.proofs.Puts.{put-fits}
-use Rattle.notice.proofs.Writing.{fields-put}
-use Rattle.notice.proofs.put_fields.Statement.{statement}
-use Rattle.notice.proofs.put_fields.Tie as tie
+use Rattle.writer.proofs.Writing.{fields-put}
+use Rattle.writer.proofs.put_fields.Statement.{statement}
+use Rattle.writer.proofs.put_fields.Tie as tie
 
 cast-head-of : tie.Need-cast-head-of
 cast-head-of c = search needs

@@ -1,0 +1,3 @@
+-- The definitions of crate `writer`, in reading order.
+pub mod Writable
+pub mod Writer
