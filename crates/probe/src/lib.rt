@@ -9,7 +9,6 @@ use times::DvbRelease;
 use times::Periods;
 use times::Steps;
 use vikombare::Step;
-use vikombare::reply;
 ghost use mathlib.Core.Path.{_≡_};
 ghost use Rattle.wire.specs.Standards.{dvbSecond, a110Second};
 ghost use Rattle.check_value.specs.Register.{register};
@@ -19,7 +18,7 @@ ghost use Rattle.cadence.specs.Cadence.{admits};
 ghost use Rattle.cadence.specs.Label.{labelOf, within};
 ghost use Rattle.cadence.specs.MobileFrame.{mobilePlace};
 ghost use Rattle.slave.specs.Calls.{packetOf};
-ghost use Rattle.vikombare.specs.Flat.{flatReply};
+ghost use Rattle.replies.specs.Flat.{flatReply};
 ghost use Rattle.probe.specs.Flat.{flatSettings, flatTimes, flatLabel};
 
 #[repr(C)]
@@ -223,6 +222,6 @@ pub extern "C" fn probe_packet(s: Slave, p: &[u8], tick: u32) -> Step
     let a = r.answer;
     Step {
         slave: t,
-        reply: reply::reply_of(a),
+        reply: replies::reply_of(a),
     }
 }

@@ -1,10 +1,8 @@
 // The calls that a board's firmware links, for C: a slave's start, packets in place, numbers notices and gaps, its saved block, and notices read and
 // written. include/vikombare.h is their header. No call has a condition on its numbers: bad input gets its number of document 01's table.
-pub mod reply;
-
-use crate::reply::PacketReply;
 use notice::Notice;
 use notice::Reading;
+use replies::PacketReply;
 use slave::Shifted;
 use slave::Slave;
 use times::Periods;
@@ -18,7 +16,8 @@ ghost use Rattle.writer.specs.Writer.{writeRefusal, writeOf};
 ghost use Rattle.slave.specs.Answer.{outcomeOf};
 ghost use Rattle.slave.specs.Calls.{startOf, packetOf, numbersOf, gapOf};
 ghost use Rattle.saved.specs.Block.{saveReply, saveOf, resumeOf};
-ghost use Rattle.vikombare.specs.Flat.{tickOn, flatReply, flatNotice, flatChange};
+ghost use Rattle.replies.specs.Flat.{flatReply};
+ghost use Rattle.vikombare.specs.Flat.{tickOn, flatNotice, flatChange};
 
 // An arrival tick with its clock: profile 0 counts steps of 100 ns, profile 1 bit periods.
 #[repr(C)]
@@ -57,7 +56,7 @@ fn change_of(r: Shifted) -> Change
     let o = r.outcome;
     Change {
         slave: s,
-        number: reply::outcome_number(o),
+        number: replies::outcome_number(o),
     }
 }
 
@@ -97,7 +96,7 @@ pub extern "C" fn vikombare_packet(s: &mut Slave, p: &[u8], tick: Tick) -> Packe
 {
     let t = tick_on(*s, tick);
     let a = slave::packet_in_place(s, p, t);
-    reply::reply_of(a)
+    replies::reply_of(a)
 }
 
 // A packet that comes with a notice in numbers, profile 1. The slave is handed back.
@@ -119,7 +118,7 @@ pub extern "C" fn vikombare_numbers(
     let a = r.answer;
     Step {
         slave: t,
-        reply: reply::reply_of(a),
+        reply: replies::reply_of(a),
     }
 }
 
@@ -137,7 +136,7 @@ pub extern "C" fn vikombare_gap(s: Slave, k: u16) -> Change
 pub extern "C" fn vikombare_save(s: Slave, out: &mut [u8]) -> u8
     ensures { λ r. ⌜ (r ≡ numberOf (saveReply s (length (now (out .entry))))) × (now (out .exit) ≡ saveOf s (now (out .entry))) ⌝ }
 {
-    reply::outcome_number(saved::save(s, out))
+    replies::outcome_number(saved::save(s, out))
 }
 
 // Resumes a saved slave on a board of profile 0.

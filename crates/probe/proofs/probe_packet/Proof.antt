@@ -2,7 +2,7 @@
 -- Assumes nothing.
 use borrow.Author.Needs.{needs}
 use mathlib.Core.Path.{ap, _∙_}
-use Rattle.vikombare.specs.Flat.{flatReply}
+use Rattle.replies.specs.Flat.{flatReply}
 use Rattle.probe.proofs.probe_packet.Statement.{statement}
 use Rattle.probe.proofs.probe_packet.Tie as tie
 

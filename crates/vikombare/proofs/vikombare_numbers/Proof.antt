@@ -7,7 +7,7 @@ use mir.Facts.{toZ-ofZ}
 use denote.Ref.{now}
 use Rattle.slave.specs.Answer.{Result}
 use Rattle.slave.specs.Calls.{numbersOf}
-use Rattle.vikombare.specs.Flat.{flatReply}
+use Rattle.replies.specs.Flat.{flatReply}
 use Rattle.vikombare.proofs.vikombare_numbers.Statement.{statement}
 use Rattle.vikombare.proofs.vikombare_numbers.Tie as tie
 

@@ -9,9 +9,10 @@ use Rattle.slave.specs.Answer.{answerOf}
 use Rattle.slave.specs.Calls.{packetOf}
 use Rattle.slave.specs.declared.Slave.{Slave}
 use Rattle.slave.specs.declared.Answer.{Answer}
-use Rattle.vikombare.specs.Flat.{tickOn, flatReply}
+use Rattle.replies.specs.Flat.{flatReply}
+use Rattle.vikombare.specs.Flat.{tickOn}
 use Rattle.vikombare.specs.declared.Tick.{Tick}
-use Rattle.vikombare.specs.declared.reply.PacketReply.{PacketReply}
+use Rattle.replies.specs.declared.PacketReply.{PacketReply}
 use Rattle.slave.proofs.Slave as T
 use Rattle.slave.proofs.Slave.Laws as T′
 use Rattle.slave.proofs.Answer as R
@@ -26,12 +27,12 @@ use Rattle.vikombare.proofs.tick_on as clock
 use Rattle.vikombare.proofs.tick_on.Symbol as clock-def
 use Rattle.vikombare.proofs.tick_on.Symbol.{name as #clock}
 use Rattle.vikombare.proofs.tick_on.Met as clock-thm
-use Rattle.vikombare.proofs.reply.PacketReply as F
-use Rattle.vikombare.proofs.reply.PacketReply.Laws as F′
-use Rattle.vikombare.proofs.reply.reply_of as flat
-use Rattle.vikombare.proofs.reply.reply_of.Symbol as flat-def
-use Rattle.vikombare.proofs.reply.reply_of.Symbol.{name as #flat}
-use Rattle.vikombare.proofs.reply.reply_of.Met as flat-thm
+use Rattle.replies.proofs.PacketReply as F
+use Rattle.replies.proofs.PacketReply.Laws as F′
+use Rattle.replies.proofs.reply_of as flat
+use Rattle.replies.proofs.reply_of.Symbol as flat-def
+use Rattle.replies.proofs.reply_of.Symbol.{name as #flat}
+use Rattle.replies.proofs.reply_of.Met as flat-thm
 use Rattle.vikombare.proofs.vikombare_packet.Key.{name as #self}
 use Rattle.vikombare.proofs.vikombare_packet as self
 use Rattle.vikombare.proofs.vikombare_packet.Statement as stated
@@ -174,4 +175,4 @@ vikombare-packet-spec 𝓤 H 𝓜 𝓖 𝓡 =
     (self-meets 𝓤 H (𝓖 .A) (givenOf 𝓤 H 𝓜 𝓖) (𝓜 .mem) (𝓡 .run) (tablesOf 𝓤 H 𝓜 (tables 𝓤 H 𝓜 𝓡 code.env))
     (cited 𝓤 H (Clock 𝓤 H (𝓖 .A) (𝓜 .mem) (𝓡 .run)) 𝓜 𝓡 code.env #clock clock-def.routine code.calls-vikombare·tick-on (clock-thm.met 𝓤 H 𝓜 𝓖 𝓡))
     (cited 𝓤 H (InPlace 𝓤 H (𝓖 .A) (𝓜 .mem) (𝓡 .run)) 𝓜 𝓡 code.env #lent lent-def.routine code.calls-slave·packet-in-place (lent-thm.met 𝓤 H 𝓜 𝓖 𝓡))
-    (cited 𝓤 H (Flat 𝓤 H (𝓖 .A) (𝓜 .mem) (𝓡 .run)) 𝓜 𝓡 code.env #flat flat-def.routine code.calls-vikombare·reply·reply-of (flat-thm.met 𝓤 H 𝓜 𝓖 𝓡)))
+    (cited 𝓤 H (Flat 𝓤 H (𝓖 .A) (𝓜 .mem) (𝓡 .run)) 𝓜 𝓡 code.env #flat flat-def.routine code.calls-replies·reply-of (flat-thm.met 𝓤 H 𝓜 𝓖 𝓡)))

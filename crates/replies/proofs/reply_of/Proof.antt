@@ -1,4 +1,4 @@
--- `vikombare::reply::reply_of` meets its contract.
+-- `replies::reply_of` meets its contract.
 -- Assumes nothing.
 use borrow.Author.Needs.{needs}
 use mathlib.Core.Path.{_≡_, sym, ap, _∙_}
@@ -7,11 +7,11 @@ use Prim.Native.Nat.{ℕ}
 use Rattle.wire.specs.Reply.{refused}
 use Rattle.slave.specs.Answer.{answerOf}
 use Rattle.slave.specs.declared.Answer.{Answer}
-use Rattle.vikombare.specs.declared.reply.Mark.{Mark}
-use Rattle.vikombare.specs.declared.reply.PacketReply.{PacketReply}
-use Rattle.vikombare.specs.Flat.{flatReply, withoutTimes}
-use Rattle.vikombare.proofs.reply.reply_of.Statement.{statement}
-use Rattle.vikombare.proofs.reply.reply_of.Tie as tie
+use Rattle.replies.specs.declared.Mark.{Mark}
+use Rattle.replies.specs.declared.PacketReply.{PacketReply}
+use Rattle.replies.specs.Flat.{flatReply, withoutTimes}
+use Rattle.replies.proofs.reply_of.Statement.{statement}
+use Rattle.replies.proofs.reply_of.Tie as tie
 
 refusal : {k : ℕ} {m : Mark} → m ≡ withoutTimes 0
     → _≡_ {A = PacketReply} (record { number = k; «has_label» = false; label = 0; notice = 0; ignored = 0; turn = false; «has_place» = false; place = 0; mark = m }) (flatReply (refused k))

@@ -1,8 +1,8 @@
--- `vikombare::reply::count_of` meets its contract.
+-- `replies::count_of` meets its contract.
 -- Assumes nothing.
 use borrow.Author.Needs.{needs}
-use Rattle.vikombare.proofs.reply.count_of.Statement.{statement}
-use Rattle.vikombare.proofs.reply.count_of.Tie as tie
+use Rattle.replies.proofs.count_of.Statement.{statement}
+use Rattle.replies.proofs.count_of.Tie as tie
 
 is-just-requires : tie.Need-is-just-requires
 is-just-requires c κs = search needs

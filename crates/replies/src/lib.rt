@@ -8,7 +8,7 @@ use slave::Outcome;
 ghost use mathlib.Core.Path.{_≡_};
 ghost use Rattle.wire.specs.Reply.{numberOf};
 ghost use Rattle.slave.specs.Answer.{optionOf, noticeOf, markOf, countOf, answerOf, outcomeOf};
-ghost use Rattle.vikombare.specs.Flat.{isSome, valueOf, noticeKind, noticeNumber, withoutTimes, flatMark, flatCount, flatReply};
+ghost use Rattle.replies.specs.Flat.{isSome, valueOf, noticeKind, noticeNumber, withoutTimes, flatMark, flatCount, flatReply};
 
 // What a mark is released with, in the unit of its profile.
 #[repr(C)]
@@ -174,7 +174,7 @@ pub fn reply_of(a: Answer) -> PacketReply
 }
 
 // The number of an outcome, 0 where nothing refuses.
-pub(crate) fn outcome_number(o: Outcome) -> u8
+pub fn outcome_number(o: Outcome) -> u8
     ensures { λ r. ⌜ r ≡ numberOf (outcomeOf o) ⌝ }
 {
     match o {

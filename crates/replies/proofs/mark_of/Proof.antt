@@ -1,4 +1,4 @@
--- `vikombare::reply::mark_of` meets its contract.
+-- `replies::mark_of` meets its contract.
 -- Assumes nothing.
 use borrow.Author.Needs.{needs}
 use mathlib.Core.Path.{_≡_, sym, ap, _∙_}
@@ -8,10 +8,10 @@ use mir.Syntax.{w64}
 use mir.Val.{toZ, ofZ}
 use Rattle.slave.specs.Answer.{markOf}
 use Rattle.slave.specs.declared.MarkPart.{MarkPart}
-use Rattle.vikombare.specs.declared.reply.Mark.{Mark}
-use Rattle.vikombare.specs.Flat.{flatMark}
-use Rattle.vikombare.proofs.reply.mark_of.Statement.{statement}
-use Rattle.vikombare.proofs.reply.mark_of.Tie as tie
+use Rattle.replies.specs.declared.Mark.{Mark}
+use Rattle.replies.specs.Flat.{flatMark}
+use Rattle.replies.proofs.mark_of.Statement.{statement}
+use Rattle.replies.proofs.mark_of.Tie as tie
 
 -- a wait that is read back from its bits
 same-times : {k r e m : ℕ} {w w′ : ℤ} → w ≡ w′

@@ -1,0 +1,2 @@
+-- The definitions of crate `replies`.
+pub mod Flat
