@@ -94,6 +94,6 @@ fn main() -> Result<()> {
     for (name, took) in [("proved", first), ("plain Rust", second)] {
         println!("| | {name} | {:.3} | {:.0} | {:.3} | {} |", took.wall, bytes as f64 / 1e6 / took.wall, took.cpu, took.memory);
     }
-    println!("| | throughput of plain | {:.2} | | {:.2} | |", second.wall / first.wall, second.cpu / first.cpu);
+    println!("| | proved / plain | {:.2} | | {:.2} | |", second.wall / first.wall, second.cpu / first.cpu);
     Ok(())
 }
