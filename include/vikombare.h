@@ -215,8 +215,8 @@ vikombare_change vikombare_gap(vikombare_slave slave, uint16_t k);
 uint8_t vikombare_save(vikombare_slave slave, uint8_t *out, size_t length);
 
 /* Resumes from a saved block, whose trailer is the last 8 bytes that are lent, on a board of these settings: lend what save wrote and nothing behind it. Order:
- * 15 (cold slave), 16, 17 (each leaves a fresh hunting slave of these settings). Whatever the bytes are, an answer other than 15 has these settings, never the
- * block's. A locked slave goes on from the label that was saved: packets that have passed since are for vikombare_gap to tell. */
+ * 15 (cold slave), 16, 17 (each leaves a fresh hunting slave of these settings). Whatever the bytes are, unless the answer is 15 the slave's profile, n, site
+ * and TAD are these, never the block's. A locked slave goes on from the label that was saved: packets that have passed since are for vikombare_gap to tell. */
 vikombare_change vikombare_dvb_resume(const uint8_t *block, size_t length, uint16_t n, uint16_t site, vikombare_steps tad);
 vikombare_change vikombare_a110_resume(const uint8_t *block, size_t length, uint16_t n, uint16_t site, vikombare_periods tad);
 
