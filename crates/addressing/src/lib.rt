@@ -4,9 +4,10 @@ ghost use mathlib.Core.Bool.{true, cond};
 ghost use Prim.Native.Nat.{_+_};
 ghost use lib.ListN.{length};
 ghost use Rattle.addressing.specs.Functions.{lengthFits, setBy, functionsOf};
-ghost use Rattle.addressing.specs.Entries.{applies, settingsOf, wellFormed, walkedReply};
+ghost use Rattle.addressing.specs.Entries.{applies, settingsOf, noSettings, wellFormed, walkedReply};
 
 // What a site can be told: time offset in 100 ns steps, frequency offset in Hz, power in 0.1 dBm.
+#[repr(C)]
 pub struct Settings {
     pub od: i16,
     pub frequency: i32,
@@ -121,6 +122,17 @@ pub fn settings_of(s: &[u8], site: u16, before: Settings) -> Walked
         at = end;
     }
     Walked::Whole(t)
+}
+
+// What no entry has set.
+pub fn no_settings() -> Settings
+    ensures { λ r. ⌜ r ≡ noSettings ⌝ }
+{
+    Settings {
+        od: 0,
+        frequency: 0,
+        power: 0,
+    }
 }
 
 // Whether an addressing field has the form of clause 6.

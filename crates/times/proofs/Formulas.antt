@@ -1,5 +1,4 @@
 -- Laws of each formula of a release: its cases, its range, and what it is modulo u.
--- Assumes nothing.
 use mathlib.Core.Path.{_≡_, refl, sym, _∙_}
 use mathlib.Core.Bool.{Bool, true, false, cond, _&&_}
 use Prim.Native.Nat.{ℕ, _+_, _-_, _/_, _%_, _≤_, _<_}
@@ -9,7 +8,7 @@ use lib.IntN.{ℤ, pos, _+ℤ_, _-ℤ_}
 use lib.Signed.{ltZ, leZ}
 use borrow.Author.Tests.{ltb-true, ltb-false, not-true, lt-ltb, le-ltb}
 use Rattle.times.specs.Whole.{plus, within}
-use Rattle.times.specs.Release.{wrap, modulation, linkDelay, wait, late, delayFits, delayFitsA110}
+use Rattle.times.specs.Release.{wrap, modulation, linkDelay, wait, negative, delayFits, delayFitsA110}
 use Rattle.times.proofs.Whole.{up, down, Diff, own, natural, sum, difference, same-test, less, not-less, plus-is, plus-whole, congruent, differ, residue-less, residue-is, residue-only}
 
 -- what holds of both cases holds of the choice
@@ -130,7 +129,7 @@ module _ (md : ℕ) (od : ℤ) (tad link : ℕ) where
   wait-is = difference (difference (delay md od) (natural tad)) (natural link)
 
   -- late exactly when MD + OD is less than TAD and the link delay together
-  pub late-is : late (wait md od tad link) ≡ ltZ (pos md +ℤ od) (pos (tad + link))
+  pub late-is : negative (wait md od tad link) ≡ ltZ (pos md +ℤ od) (pos (tad + link))
   late-is =
       let a = md + up od in
       let b = 0 + down od in

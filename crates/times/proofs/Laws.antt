@@ -1,6 +1,5 @@
 -- What holds of the times of a release, for a second of u units.
 -- Their ranges, where the wait ends, when a mark is late, and one reference time for all sites.
--- Assumes nothing.
 use mathlib.Core.Path.{_≡_, refl, sym, ap, _∙_, subst}
 use mathlib.Core.Bool.{Bool, true, false}
 use Prim.Native.Nat.{ℕ, _+_, _/_, _%_, _≤_, _<_}
@@ -9,13 +8,11 @@ use native.Mathlib.Omega.{arith}
 use lib.Dec.{T, ltb}
 use lib.IntN.{ℤ, pos, negsuc, natAbs, _+ℤ_}
 use lib.Signed.{ltZ}
-use Rattle.wire.specs.Reply.{given}
-use Rattle.wire.specs.Standards.{dvbSecond, a110Second}
 use Rattle.times.specs.Whole.{plus, residue}
-use Rattle.times.specs.Release.{wrap, reference, emission, modulation, linkDelay, wait, late, delayFits, Times, waitOf, timesOf, releaseOf, dvbRelease, a110Release}
+use Rattle.times.specs.Release.{wrap, reference, emission, modulation, linkDelay, wait, negative, delayFits, Times, released, waitOf, timesOf, dueOf, Kept}
 use Rattle.times.proofs.Whole.{up, down, Diff, natural, sum, plus-is, congruent, differ, residue-only}
-use Rattle.times.proofs.Formulas.{wrap-most, wrap-residue, modulation-most, modulation-residue, link-residue, delay-least, delay-less, delay-whole, sum-apart, wait-is, late-is, fits-a110}
-use Rattle.times.proofs.Answers.{Passed, released}
+use Rattle.times.proofs.Formulas.{wrap-most, wrap-residue, modulation-most, modulation-residue, link-residue, delay-least, delay-less, delay-whole, sum-apart, wait-is, late-is}
+use Rattle.times.proofs.Answers.{Passed, passed}
 
 -- ---- ranges
 pub record InRange (u : ℕ) (t : Times) : Type 0 where
@@ -54,80 +51,52 @@ module _ (u sts md : ℕ) (od : ℤ) (fits : delayFits u md od ≡ true) where
       (omega (arith, plus-is (sts + md) od, delay-least u md od fits)))
 
   -- ---- a wait that is not late is at most MD + OD
-  pub wait-less : (tad arrival : ℕ) → late (waitOf u sts md od tad arrival) ≡ false → natAbs (waitOf u sts md od tad arrival) < u
+  pub wait-less : (tad arrival : ℕ) → negative (waitOf u sts md od tad arrival) ≡ false → natAbs (waitOf u sts md od tad arrival) < u
   wait-less tad arrival = at-most (linkDelay u arrival sts) (waitOf u sts md od tad arrival) (wait-is md od tad (linkDelay u arrival sts))
     where
-      at-most : (b : ℕ) (z : ℤ) → Diff z (md + up od + 0 + 0) (0 + down od + tad + b) → late z ≡ false → natAbs z < u
+      at-most : (b : ℕ) (z : ℤ) → Diff z (md + up od + 0 + 0) (0 + down od + tad + b) → negative z ≡ false → natAbs z < u
       at-most b (pos k) d e = omega (arith, d .is, plus-is md od, delay-least u md od fits, delay-less u md od fits)
       at-most b (negsuc k) d e = absurd (subst T e tt)
 
   -- ---- late exactly when MD + OD is over before the link delay and TAD are
-  pub late-after : (tad link : ℕ) → late (wait md od tad link) ≡ ltb (plus md od) (tad + link)
+  pub late-after : (tad link : ℕ) → negative (wait md od tad link) ≡ ltb (plus md od) (tad + link)
   late-after tad link = late-is md od tad link ∙ ap (λ (z : ℤ). ltZ z (pos (tad + link))) (sym (delay-whole u md od fits))
 
--- ---- of an answer
-in-time : (z : ℤ) → late z ≡ false → z ≡ pos (natAbs z)
+-- ---- of a mark that was released within the limits
+in-time : (z : ℤ) → negative z ≡ false → z ≡ pos (natAbs z)
 in-time (pos n) e = refl
 in-time (negsuc n) e = absurd (subst T e tt)
 
-module _
-    (u : ℕ) (fits : Bool) (sts md : ℕ) (od : ℤ) (tad arrival : ℕ) (t : Times)
-    (answer : releaseOf u fits sts md od tad arrival ≡ given (given t))
-  where
-    has : Passed u fits sts md od tad arrival t
-    has = released u fits sts md od tad arrival t answer
+module _ (u sts md : ℕ) (od : ℤ) (tad arrival : ℕ) (t : Times) (answer : dueOf u sts md od tad arrival ≡ released t) where
+  has : Passed u sts md od tad arrival t
+  has = passed u sts md od tad arrival t answer
 
-    -- a site's own values do not enter the reference time
-    pub released-reference : t .reference ≡ reference u sts md
-    released-reference = sym (ap (λ (x : Times). x .reference) (has .times-are))
+  -- a site's own values do not enter the reference time
+  pub released-reference : t .reference ≡ reference u sts md
+  released-reference = sym (ap (λ (x : Times). x .reference) (has .times-are))
 
-    module _ (holds : fits ≡ true → delayFits u md od ≡ true) where
-      pub released-range : InRange u t
-      released-range =
-          let k = has .limits-kept in
-          subst (InRange u) (has .times-are) (times-range u sts md od (holds (k .fit)) tad arrival (k .sts-less) (k .md-less))
+  module _ (k : Kept u sts md od tad arrival) where
+    pub released-range : InRange u t
+    released-range = subst (InRange u) (has .times-are) (times-range u sts md od (k .delay-fits) tad arrival (k .sts-less) (k .md-less))
 
-      -- the wait is less than a second: it is at most MD + OD
-      pub released-wait : natAbs (t .wait) < u
-      released-wait =
-          let k = has .limits-kept in
-          subst (λ (x : Times). natAbs (x .wait) < u) (has .times-are)
-          (wait-less u sts md od (holds (k .fit)) tad arrival (has .in-time))
+    -- the wait is less than a second: it is at most MD + OD
+    pub released-wait : natAbs (t .wait) < u
+    released-wait =
+        subst (λ (x : Times). natAbs (x .wait) < u) (has .times-are)
+        (wait-less u sts md od (k .delay-fits) tad arrival (has .in-time))
 
-      -- held for its wait from the arrival tick on, the mark ends at its modulation time, modulo u
-      pub released-ends : (arrival + natAbs (t .wait)) % u ≡ t .modulation % u
-      released-ends =
-          subst (λ (x : Times). (arrival + natAbs (x .wait)) % u ≡ x .modulation % u) (has .times-are)
-          (sym (ap (λ (z : ℤ). residue u (pos arrival +ℤ z)) (in-time (waitOf u sts md od tad arrival) (has .in-time)))
-          ∙ wait-ends u sts md od (holds (has .limits-kept .fit)) tad arrival (has .limits-kept .tad-less))
-
--- ---- of both profiles
-module _ (sts md : ℕ) (od : ℤ) (tad arrival : ℕ) (t : Times) where
-  module _ (answer : dvbRelease sts md od tad arrival ≡ given (given t)) where
-    pub dvb-range : InRange dvbSecond t
-    dvb-range = released-range dvbSecond _ sts md od tad arrival t answer (λ e. e)
-
-    pub dvb-wait : natAbs (t .wait) < dvbSecond
-    dvb-wait = released-wait dvbSecond _ sts md od tad arrival t answer (λ e. e)
-
-    pub dvb-ends : (arrival + natAbs (t .wait)) % dvbSecond ≡ t .modulation % dvbSecond
-    dvb-ends = released-ends dvbSecond _ sts md od tad arrival t answer (λ e. e)
-
-  module _ (answer : a110Release sts md od tad arrival ≡ given (given t)) where
-    pub a110-range : InRange a110Second t
-    a110-range = released-range a110Second _ sts md od tad arrival t answer (fits-a110 a110Second md od tad)
-
-    pub a110-wait : natAbs (t .wait) < a110Second
-    a110-wait = released-wait a110Second _ sts md od tad arrival t answer (fits-a110 a110Second md od tad)
-
-    pub a110-ends : (arrival + natAbs (t .wait)) % a110Second ≡ t .modulation % a110Second
-    a110-ends = released-ends a110Second _ sts md od tad arrival t answer (fits-a110 a110Second md od tad)
+    -- held for its wait from the arrival tick on, the mark ends at its modulation time, modulo u
+    pub released-ends : (arrival + natAbs (t .wait)) % u ≡ t .modulation % u
+    released-ends =
+        subst (λ (x : Times). (arrival + natAbs (x .wait)) % u ≡ x .modulation % u) (has .times-are)
+        (sym (ap (λ (z : ℤ). residue u (pos arrival +ℤ z)) (in-time (waitOf u sts md od tad arrival) (has .in-time)))
+        ∙ wait-ends u sts md od (k .delay-fits) tad arrival (k .tad-less))
 
 -- two sites that release a mark of one STS and MD give it one reference time
 pub one-reference :
-    (u sts md : ℕ) (fits fits′ : Bool) (od od′ : ℤ) (tad tad′ arrival arrival′ : ℕ) (t t′ : Times)
-    → releaseOf u fits sts md od tad arrival ≡ given (given t)
-    → releaseOf u fits′ sts md od′ tad′ arrival′ ≡ given (given t′)
+    (u sts md : ℕ) (od od′ : ℤ) (tad tad′ arrival arrival′ : ℕ) (t t′ : Times)
+    → dueOf u sts md od tad arrival ≡ released t
+    → dueOf u sts md od′ tad′ arrival′ ≡ released t′
     → t .reference ≡ t′ .reference
-one-reference u sts md fits fits′ od od′ tad tad′ arrival arrival′ t t′ e e′ =
-    released-reference u fits sts md od tad arrival t e ∙ sym (released-reference u fits′ sts md od′ tad′ arrival′ t′ e′)
+one-reference u sts md od od′ tad tad′ arrival arrival′ t t′ e e′ =
+    released-reference u sts md od tad arrival t e ∙ sym (released-reference u sts md od′ tad′ arrival′ t′ e′)

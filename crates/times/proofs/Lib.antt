@@ -4,4 +4,3 @@ pub mod Words
 pub mod Formulas
 pub mod Answers
 pub mod Laws
-pub mod Readings

@@ -1,6 +1,5 @@
 -- Whole numbers as differences of naturals: z is a − b.
 -- Sums, orders, bounds and residues of whole numbers are read off such a difference, in naturals.
--- Assumes nothing.
 use mathlib.Core.Path.{_≡_, refl, sym, ap, _∙_}
 use mathlib.Core.Bool.{Bool, true, false, not}
 use Prim.Native.Nat.{ℕ, zero, suc, _+_, _*_, _-_, _/_, _%_, _≤_, _<_}

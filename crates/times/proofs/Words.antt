@@ -1,6 +1,5 @@
 -- Sums of signed 64-bit numbers: the word v holds z, whose size is at most k.
 -- Each sum asks that the sum of the bounds is below 2 ^ 63.
--- Assumes nothing.
 use mathlib.Core.Path.{_≡_, sym, ap, _∙_, subst}
 use Prim.Native.Nat.{ℕ, suc, _+_, _^_, _≤_, _<_}
 use native.Mathlib.Omega.{arith}

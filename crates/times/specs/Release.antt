@@ -1,13 +1,11 @@
 -- The times of a release for a second of u units, and the limits that they keep.
--- Document 01, "Two clocks" and "Release", refusals 3, 11, 13, 14 and 15; A/110 6.4.2 and 6.4.5.
--- Assumes nothing.
-use mathlib.Core.Bool.{Bool, cond, not, _&&_}
-use Prim.Native.Nat.{ℕ, _+_, _-_}
+-- Document 01, "Two clocks" and "Release", refusals 3, 11, 13 and 14; A/110 6.4.2 and 6.4.5.
+use mathlib.Core.Path.{_≡_}
+use mathlib.Core.Bool.{Bool, true, cond, _&&_}
+use Prim.Native.Nat.{ℕ, _+_, _-_, _<_}
 use lib.Dec.{ltb}
 use lib.IntN.{ℤ, pos, _+ℤ_, _-ℤ_}
 use lib.Signed.{ltZ}
-use Rattle.wire.specs.Reply.{Reply, must, reply}
-use Rattle.wire.specs.Standards.{dvbSecond, a110Second}
 use Rattle.times.specs.Whole.{plus, residue, within}
 
 -- a sum that exceeds u loses u; one equal to u stays (A/110 6.4.5)
@@ -35,8 +33,8 @@ abbrev pub wait : ℕ → ℤ → ℕ → ℕ → ℤ
 wait md od tad link = pos md +ℤ od -ℤ pos tad -ℤ pos link
 
 -- a negative wait is late
-abbrev pub late : ℤ → Bool
-late w = ltZ w (pos 0)
+abbrev pub negative : ℤ → Bool
+negative w = ltZ w (pos 0)
 
 -- at most u − 1, as an arrival tick (3), STS and MD (11) and TAD (15) must be
 abbrev pub inSecond : ℕ → ℕ → Bool
@@ -57,15 +55,10 @@ pub record Times : Type 0 where
   pub modulation : ℕ
   pub wait : ℤ
 
--- the first limit that is broken, or 0; `fits` is the profile's 13
-unfoldable pub limits : ℕ → Bool → ℕ → ℕ → ℕ → ℕ → ℕ
-limits u fits sts md tad arrival =
-    must (inSecond u tad) 15
-    (must (inSecond u arrival) 3
-    (must (inSecond u sts) 11
-    (must (inSecond u md) 11
-    (must fits 13
-    0))))
+-- a mark that is due is late, or released with its times
+pub data Due : Type 0 where
+  late : Due
+  released : Times → Due
 
 -- a mark of STS, MD and OD that came at the tick `arrival` to a site with TAD
 module _ (u sts md : ℕ) (od : ℤ) (tad arrival : ℕ) where
@@ -81,18 +74,14 @@ module _ (u sts md : ℕ) (od : ℤ) (tad arrival : ℕ) where
         wait = waitOf;
       }
 
-  -- the mark's part of an answer: 14 if it is late, else its times
-  unfoldable pub markOf : Reply Times
-  markOf = reply (must (not (late waitOf)) 14 0) timesOf
+  -- the sign of the wait decides
+  unfoldable pub dueOf : Due
+  dueOf = cond (negative waitOf) late (released timesOf)
 
--- the answer to a release: a broken limit refuses it, else it gives the mark's part
-unfoldable pub releaseOf : (u : ℕ) (fits : Bool) (sts md : ℕ) (od : ℤ) (tad arrival : ℕ) → Reply (Reply Times)
-releaseOf u fits sts md od tad arrival = reply (limits u fits sts md tad arrival) (markOf u sts md od tad arrival)
-
--- profile 0, in 100 ns steps
-abbrev pub dvbRelease : (sts md : ℕ) (od : ℤ) (tad arrival : ℕ) → Reply (Reply Times)
-dvbRelease sts md od tad arrival = releaseOf dvbSecond (delayFits dvbSecond md od) sts md od tad arrival
-
--- profile 1, in transport stream bit periods
-abbrev pub a110Release : (sts md : ℕ) (od : ℤ) (tad arrival : ℕ) → Reply (Reply Times)
-a110Release sts md od tad arrival = releaseOf a110Second (delayFitsA110 a110Second md od tad) sts md od tad arrival
+  -- the limits that a sound slave's notice keeps at a tick of its second
+  pub record Kept : Type 0 where
+    pub sts-less : sts < u
+    pub md-less : md < u
+    pub delay-fits : delayFits u md od ≡ true
+    pub tad-less : tad < u
+    pub arrival-less : arrival < u

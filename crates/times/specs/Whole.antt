@@ -1,5 +1,4 @@
 -- A natural number with a signed one, as the formulas of document 01's "Release" and refusal 13 need them.
--- Assumes nothing.
 use mathlib.Core.Bool.{Bool, _&&_}
 use Prim.Native.Nat.{ℕ, suc, _+_, _-_, _%_}
 use lib.IntN.{ℤ, pos, negsuc}

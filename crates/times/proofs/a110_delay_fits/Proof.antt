@@ -1,5 +1,4 @@
 -- `times::a110_delay_fits` meets its contract.
--- Assumes nothing.
 use mathlib.Core.Path.{ap, _∙_}
 use lib.IntN.{ℤ}
 use mir.Facts.{toZ-ofZ}

@@ -1,5 +1,4 @@
 -- `times::delay` meets its contract.
--- Assumes nothing.
 use borrow.Author.Needs.{needs}
 use lib.Dec.{lit<}
 use Rattle.times.proofs.Words.{from-u32, from-i16, widen-fits, sum-holds, sum-fits}

@@ -1,5 +1,4 @@
 -- `times::delay_fits` meets its contract.
--- Assumes nothing.
 use mathlib.Core.Path.{ap, _∙_}
 use borrow.Author.Needs.{needs}
 use Rattle.times.specs.Whole.{within}

@@ -1,5 +1,4 @@
 -- `times::dvb_delay_fits` meets its contract.
--- Assumes nothing.
 use mathlib.Core.Path.{ap, _∙_}
 use mir.Facts.{toZ-ofZ}
 use borrow.Author.Needs.{needs}

@@ -1,3 +1,0 @@
--- The laws of crate `limits`.
-pub mod Profiles
-pub mod Bounds

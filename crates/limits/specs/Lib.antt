@@ -1,2 +1,0 @@
--- The definitions of crate `limits`.
-pub mod Limits
