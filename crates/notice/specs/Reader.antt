@@ -43,6 +43,9 @@ bodyRefusal s =
     (must (inSecond dvbSecond (maximumDelay s .0)) 11
     0)))
 
+unfoldable pub sectionRefusal : List ℕ → ℕ
+sectionRefusal s = orElse (headRefusal s) (must (eqb (register (throughCheck s)) 0) 9 0)
+
 unfoldable pub readRefusal : List ℕ → ℕ
 readRefusal s = orElse (packetRefusal s) (orElse (headRefusal s) (bodyRefusal s))
 

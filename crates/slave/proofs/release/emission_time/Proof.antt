@@ -1,4 +1,4 @@
--- `times::emission_time` meets its contract: where 13 holds, MD + OD is a natural number below u.
+-- `slave::release::emission_time` meets its contract: where 13 holds, MD + OD is a natural number below u.
 use mathlib.Core.Path.{_≡_, sym, ap, _∙_, subst}
 use Prim.Native.Nat.{_+_, _<_}
 use native.Mathlib.Omega.{arith}
@@ -8,12 +8,12 @@ use lib.Signed.{nonNeg}
 use mir.Syntax.{w32, w64}
 use mir.Val.{Fits, toZ, ofZ}
 use borrow.Author.Needs.{needs}
 use Rattle.times.specs.Whole.{plus}
 use Rattle.times.specs.Release.{wrap}
 use Rattle.times.proofs.Formulas.{delay-less, delay-whole, sum-apart}
 use Rattle.times.proofs.Words.{delay-holds}
-use Rattle.times.proofs.emission_time.Statement.{statement}
-use Rattle.times.proofs.emission_time.Tie as tie
+use Rattle.slave.proofs.release.emission_time.Statement.{statement}
+use Rattle.slave.proofs.release.emission_time.Tie as tie
 
 -- what the cast reads
 read : (c : tie.After-delay) → toZ w64 (ofZ w64 (c .delay .result)) ≡ pos (plus (c .before .args .md) (c .before .args .od))
