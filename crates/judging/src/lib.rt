@@ -134,8 +134,8 @@ fn judge_mip(b: Board, t: Settings, p: &[u8]) -> Judged
     }
     let field = notice::addressing_part(p);
     match addressing::settings_of(field, b.site, t) {
-        Walked::Whole(settings) => limited(b, mip_taken(p, settings)),
-        Walked::Wrong => Judged::Counts(10),
+        Walked::Set(settings) => limited(b, mip_taken(p, settings)),
+        Walked::Malformed => Judged::Counts(10),
     }
 }
 
