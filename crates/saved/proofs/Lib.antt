@@ -3,3 +3,6 @@ pub mod Body
 pub mod Shape
 pub mod Fitting
 pub mod Answers
+pub mod Resumed
+pub mod Accepted
+pub mod Examples
