@@ -31,7 +31,7 @@ use Rattle.slave.specs.Answer.{Result, left}
 use Rattle.saved.specs.Layout.{bodyLength, pair, bodyOf, slaveIn}
 use Rattle.saved.specs.Block.{trailerLength, blockLength, coveredOf, blockOf, saveRefusal, saveOf, trailer, trailerSite, distance, shaped, fromBody, held, blockFits, sameBoard, resumeOf}
 use Rattle.saved.proofs.Body.{Fits, number-fits, body-bytes, slave-back}
-use Rattle.saved.proofs.Shape.{shape-room}
+use Rattle.saved.proofs.Shape.{shape-room, fails}
 use Rattle.saved.proofs.Fitting.{fits-sound, fitting}
 use Rattle.saved.proofs.Answers.{covered-length, resume-16, resume-17, resume-held}
 
@@ -134,11 +134,6 @@ one-board a b e =
 own-board : (b : Board) → sameBoard b b ≡ true
 unfolding sameBoard
 own-board b = rw (eq-eqb (b .site) (b .site) refl, eq-eqb (b .profile) (b .profile) refl, eq-eqb (b .n) (b .n) refl, eq-eqb (b .tad) (b .tad) refl)
-
--- a test that cannot hold fails
-fails : (b : Bool) → (b ≡ true → ⊥) → b ≡ false
-fails true h = absurd (h refl)
-fails false h = refl
 
 module _ (s : Slave) (f : Fits s) (out : List ℕ) (e : saveOf s out .reply ≡ given tt) where
   abbrev block : List ℕ

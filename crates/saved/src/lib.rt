@@ -8,7 +8,9 @@ use state::Slave;
 use state::Waiting;
 ghost use mathlib.Core.Path.{_≡_};
 ghost use Prim.Native.Nat.{_-_};
-ghost use Rattle.slave.specs.Answer.{shiftedOf};
+ghost use Rattle.wire.specs.Reply.{refused};
+ghost use Rattle.state.specs.Slave.{hunting};
+ghost use Rattle.slave.specs.Answer.{left, shiftedOf};
 ghost use Rattle.saved.specs.Layout.{byte, pair, word, fieldsOf, putIn, putAll, slaveIn};
 ghost use Rattle.saved.specs.Block.{saveOf, outputOf, trailer, distance, shaped, fromBody, held, blockFits, sameBoard, resumeOf};
 
@@ -181,6 +183,16 @@ fn same_board(a: Board, b: Board) -> bool
     a.tad == b.tad
 }
 
+// A number, and a fresh hunting slave of the board.
+fn fresh(b: Board, number: u8) -> Shifted
+    ensures { λ r. ⌜ shiftedOf r ≡ left (hunting b) (refused number) ⌝ }
+{
+    Shifted {
+        slave: state::hunting_slave(b),
+        outcome: Outcome::Refused(number),
+    }
+}
+
 // Resumes from any bytes on a board. 15 leaves the cold slave, 16 and 17 a fresh hunting slave of the board.
 pub fn resume(block: &[u8], b: Board) -> Shifted
     ensures { λ r. ⌜ shiftedOf r ≡ resumeOf (now (block .entry)) b ⌝ }
@@ -192,19 +204,17 @@ pub fn resume(block: &[u8], b: Board) -> Shifted
         };
     }
     let body = from_body(block);
+    // no shape; below, every part is known to lie within the bytes
+    if body.len() < BLOCK_LENGTH {
+        return fresh(b, 16);
+    }
     let s = slave_in(body);
     if !block_fits(block, body, s) {
-        return Shifted {
-            slave: state::hunting_slave(b),
-            outcome: Outcome::Refused(16),
-        };
+        return fresh(b, 16);
     }
     let board = s.board;
     if !same_board(board, b) {
-        return Shifted {
-            slave: state::hunting_slave(b),
-            outcome: Outcome::Refused(17),
-        };
+        return fresh(b, 17);
     }
     Shifted {
         slave: s,
