@@ -19,7 +19,7 @@ use Rattle.state.specs.declared.Board.{Board}
 use Rattle.state.specs.declared.Slave.{Slave}
 use Rattle.slave.specs.Answer.{left}
 use Rattle.slave.specs.Calls.{startOf}
-use Rattle.saved.specs.Layout.{bodyLength, pair, fieldsOf, putIn, putAll, bodyOf}
+use Rattle.saved.specs.Layout.{bodyLength, pair, bodyFields, putIn, putAll, bodyOf}
 use Rattle.saved.specs.Block.{blockLength, coveredOf, blockOf, saveRefusal, saveOf, held, blockFits, sameBoard, resumeRefusal, resumeOf}
 use Rattle.saved.proofs.Body.{put-packed}
 
@@ -45,7 +45,7 @@ covered-length s = refl
 
 -- body, site and distance put at the front, and sealed
 pub block-put : (s : Slave) (d d₁ d₂ d₃ d₄ : List ℕ) → blockLength ≤ length d
-    → d₁ ≡ putAll d (fieldsOf s)
+    → d₁ ≡ putAll d (bodyFields s)
     → d₂ ≡ putIn d₁ (pair bodyLength) (s .board .site)
     → d₃ ≡ putIn d₂ (pair (bodyLength + 2)) bodyLength
     → d₄ ≡ sealedAt (blockLength - 4) d₃
@@ -57,7 +57,7 @@ block-put s d d₁ d₂ d₃ d₄ h e₁ e₂ e₃ e₄ =
     let covered : d₃ ≡ coveredOf s ++ drop at d =
     e₃
     ∙ ap (λ (x : List ℕ). putIn x (pair (bodyLength + 2)) bodyLength) (e₂ ∙ ap (λ (x : List ℕ). putIn x (pair bodyLength) site) e₁)
-    ∙ put-packed d (fieldsOf s ++ (pair bodyLength, site) ∷ (pair (bodyLength + 2), bodyLength) ∷ []) 0 [] refl refl (omega arith) in
+    ∙ put-packed d (bodyFields s ++ (pair bodyLength, site) ∷ (pair (bodyLength + 2), bodyLength) ∷ []) 0 [] refl refl (omega arith) in
     let front : take at (coveredOf s ++ drop at d) ≡ coveredOf s = take-at (coveredOf s) (drop at d) at (covered-length s) in
     e₄
     ∙ ap (sealedAt at) covered

@@ -16,7 +16,7 @@ use Rattle.wire.proofs.Numbers.{spelled16, spelled32, of16, of32, signed-bits, 
 use Rattle.wire.proofs.Bytes.{Bytes, no-bytes, and-byte, and-bytes, bytes-16, bytes-32, elements}
 use Rattle.wire.proofs.Puts.{put-fits, put-behind}
 use Rattle.state.specs.declared.Slave.{Slave}
-use Rattle.saved.specs.Layout.{bodyLength, Field, byte, pair, word, slaveOf, fieldsOf, numberIn, bytesIn, written, slaveIn, bodyOf, firstByte, putIn, putAll}
+use Rattle.saved.specs.Layout.{bodyLength, Field, byte, pair, word, slaveOf, bodyFields, numberIn, bytesIn, written, slaveIn, bodyOf, firstByte, putIn, putAll}
 
 -- a field's bytes, and the range of its numbers
 abbrev pub widthOf : Field → ℕ
@@ -44,7 +44,7 @@ inRange (f ∷ fs) = ltb (f .1) (rangeOf (f .0)) && inRange fs
 
 -- every part is a number of its width, as those of every slave that code holds are
 pub record Fits (s : Slave) : Type 0 where
-  pub fields : inRange (fieldsOf s) ≡ true
+  pub fields : inRange (bodyFields s) ≡ true
   pub od : mag (s .settings .od) < 32768
   pub frequency : mag (s .settings .frequency) < 2147483648
 
@@ -63,7 +63,7 @@ fields-bytes (f ∷ fs) r =
 
 pub body-bytes : (s : Slave) → Fits s → Bytes (bodyOf s)
 unfolding bodyOf
-body-bytes s f = fields-bytes (fieldsOf s) (f .fields)
+body-bytes s f = fields-bytes (bodyFields s) (f .fields)
 
 field-length : (f : Field) (v : ℕ) → length (bytesIn f v) ≡ widthOf f
 field-length (byte i) v = refl
@@ -175,17 +175,17 @@ module _ (b : List ℕ) where
       (sym (drop-drop (widthOf (f .0)) k b) ∙ ap (drop (widthOf (f .0))) here ∙ drop-at x (written fs ++ t) (widthOf (f .0)) (field-length (f .0) (f .1))) g)
 
 module _ (s : Slave) (f : Fits s) where
-  own-parts : (other : Field → ℕ) → slaveOf (numberAt other (fieldsOf s)) ≡ s
+  own-parts : (other : Field → ℕ) → slaveOf (numberAt other (bodyFields s)) ≡ s
   own-parts other =
       λ i.
       record {
         board = s .board;
         settings =
-        record {
-          od = signed-bits 32768 (s .settings .od) (f .od) i;
-          frequency = signed-bits 2147483648 (s .settings .frequency) (f .frequency) i;
-          power = s .settings .power;
-        };
+            record {
+              od = signed-bits 32768 (s .settings .od) (f .od) i;
+              frequency = signed-bits 2147483648 (s .settings .frequency) (f .frequency) i;
+              power = s .settings .power;
+            };
         count = s .count;
         waiting = s .waiting;
       }
@@ -195,7 +195,7 @@ module _ (s : Slave) (f : Fits s) where
   unfolding slaveIn bodyOf
   slave-back rest =
       let b : List ℕ = bodyOf s ++ rest in
-      (λ i. slaveOf (λ g. fields-read b (fieldsOf s) 0 rest refl (f .fields) refl g i)) ∙ own-parts (numberIn b)
+      (λ i. slaveOf (λ g. fields-read b (bodyFields s) 0 rest refl (f .fields) refl g i)) ∙ own-parts (numberIn b)
 
 -- ---- the slave that some bytes hold has their first as its body
 
@@ -234,10 +234,10 @@ module _ (b : List ℕ) where
     fields-again [] = refl
     fields-again (f ∷ fs) = ap₂ _++_ (field-again (f .0)) (fields-again fs)
 
-    own-fields : fieldsOf (slaveIn b) ≡ readAll (fieldsOf (slaveIn b))
+    own-fields : bodyFields (slaveIn b) ≡ readAll (bodyFields (slaveIn b))
     unfolding slaveIn
     own-fields = rw (bits-signed 32768 (numberIn b (pair 10)) (number-fits (pair 10)), bits-signed 2147483648 (numberIn b (word 12)) (number-fits (word 12)))
 
     pub body-again : bodyOf (slaveIn b) ≡ elements bodyLength 0 b
     unfolding bodyOf
-    body-again = ap written own-fields ∙ fields-again (fieldsOf (slaveIn b))
+    body-again = ap written own-fields ∙ fields-again (bodyFields (slaveIn b))

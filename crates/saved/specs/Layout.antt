@@ -27,8 +27,8 @@ slaveOf at =
     }
 
 -- and the fields in order, with the bits that are written to them
-abbrev pub fieldsOf : Slave → List (Field × ℕ)
-fieldsOf s =
+abbrev pub bodyFields : Slave → List (Field × ℕ)
+bodyFields s =
     (byte 0, s .count .phase)
     ∷ (byte 1, s .board .profile)
     ∷ (pair 2, s .board .n)
@@ -65,7 +65,7 @@ unfoldable pub slaveIn : List ℕ → Slave
 slaveIn b = slaveOf (numberIn b)
 
 unfoldable pub bodyOf : Slave → List ℕ
-bodyOf s = written (fieldsOf s)
+bodyOf s = written (bodyFields s)
 
 -- some bytes with fields put over them, each at its place
 abbrev pub firstByte : Field → ℕ

@@ -11,12 +11,14 @@ ghost use Prim.Native.Nat.{_-_};
 ghost use Rattle.wire.specs.Reply.{refused};
 ghost use Rattle.state.specs.Slave.{hunting};
 ghost use Rattle.slave.specs.Answer.{left, shiftedOf};
-ghost use Rattle.saved.specs.Layout.{byte, pair, word, fieldsOf, putIn, putAll, slaveIn};
+ghost use Rattle.saved.specs.Layout.{byte, pair, word, bodyFields, putIn, putAll, slaveIn};
 ghost use Rattle.saved.specs.Block.{saveOf, outputOf, trailer, distance, shaped, fromBody, held, blockFits, sameBoard, resumeOf};
 
 // The bytes of a body, of a trailer, and of the block that a save writes.
 const BODY_LENGTH: usize = 30;
+
 const TRAILER_LENGTH: usize = 8;
+
 const BLOCK_LENGTH: usize = BODY_LENGTH + TRAILER_LENGTH;
 
 // Puts a byte at its place in the body.
@@ -40,7 +42,7 @@ fn put_word(out: &mut [u8], at: usize, v: u32)
 
 // Puts a slave's body over the first bytes.
 fn put_body(out: &mut [u8], s: Slave)
-    ensures { λ _. ⌜ now (out .exit) ≡ putAll (now (out .entry)) (fieldsOf s) ⌝ }
+    ensures { λ _. ⌜ now (out .exit) ≡ putAll (now (out .entry)) (bodyFields s) ⌝ }
 {
     put_byte(out, 0, s.count.phase);
     put_byte(out, 1, s.board.profile);

@@ -6,7 +6,7 @@ use denote.Ref.{now}
 use mir.Syntax.{w16, w32}
 use mir.Val.{toZ, ofZ}
 use Rattle.wire.specs.Signed.{bits16, bits32}
-use Rattle.saved.specs.Layout.{byte, pair, word, fieldsOf, putAll}
+use Rattle.saved.specs.Layout.{byte, pair, word, bodyFields, putAll}
 use Rattle.saved.proofs.Body.{after, with-number, puts-length}
 use Rattle.saved.proofs.put_body.Statement.{statement}
 use Rattle.saved.proofs.put_body.Tie as tie
@@ -97,7 +97,7 @@ returns c =
 same-length : tie.Need-same-length
 same-length c =
     let a = c .before .before .before .before .before .before .before .before .before .before .before .before .before .before .before .before .before .before .before .before .before .before .before .before .before .before .before .before .before .before .before .before .before .before .before .before .before .before .before .before .before .before .before .before .before .before .before .before .before .before .before .before .before .before .before .before .before .args in
-    ap length (returns c) ∙ puts-length (fieldsOf (a .s)) (now (a .out))
+    ap length (returns c) ∙ puts-length (bodyFields (a .s)) (now (a .out))
 
 pub put-body-spec : {M : Type 1} → statement M
 put-body-spec =

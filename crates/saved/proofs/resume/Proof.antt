@@ -47,7 +47,7 @@ fresh-requires : tie.Need-fresh-requires
 fresh-requires c κs = search needs
 
 returns-2 : tie.Need-returns-2
-returns-2 c = 
+returns-2 c =
     let a = c .before .before .before .before .before .before .args in
     let short = short-body (now (a .block)) (omega (arith, ap length (c .before .before .from-body .ensures))) in
     c .fresh .ensures ∙ sym (resume-16 (now (a .block)) (a .b) (kept (c .before .before .before)) (sym (fits-shape (now (a .block)) short)))

@@ -64,7 +64,7 @@ number32-at-requires-4 c κs = search needs
 
 returns : tie.Need-returns
 unfolding slaveIn
-returns c = 
+returns c =
     let md = c in
     let sts = md .before in
     let pending = sts .before in
@@ -81,18 +81,18 @@ returns c =
     λ i.
     record {
       board =
-      record {
-        profile = profile .byte-at .ensures i;
-        n = n .number16-at .ensures i;
-        site = site .number16-at2 .ensures i;
-        tad = tad .number32-at .ensures i;
-      };
+          record {
+            profile = profile .byte-at .ensures i;
+            n = n .number16-at .ensures i;
+            site = site .number16-at2 .ensures i;
+            tad = tad .number32-at .ensures i;
+          };
       settings =
-      record {
-        od = (od-kept od ∙ od .signed-16 .ensures ∙ ap signed16 (od .before .number16-at3 .ensures)) i;
-        frequency = (frequency-kept frequency ∙ frequency .signed-32 .ensures ∙ ap signed32 (frequency .before .number32-at2 .ensures)) i;
-        power = power .number16-at4 .ensures i;
-      };
+          record {
+            od = (od-kept od ∙ od .signed-16 .ensures ∙ ap signed16 (od .before .number16-at3 .ensures)) i;
+            frequency = (frequency-kept frequency ∙ frequency .signed-32 .ensures ∙ ap signed32 (frequency .before .number32-at2 .ensures)) i;
+            power = power .number16-at4 .ensures i;
+          };
       count = record { phase = phase .byte-at2 .ensures i; next = next .number16-at5 .ensures i; index = index .byte-at3 .ensures i };
       waiting = record { pending = pending .byte-at4 .ensures i; sts = sts .number32-at3 .ensures i; md = md .number32-at4 .ensures i };
     }
