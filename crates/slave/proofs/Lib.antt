@@ -1,1 +1,3 @@
 -- The laws of crate `slave`, in the order in which they build on each other.
+pub mod Sound
+pub mod Due
