@@ -26,7 +26,7 @@ use Rattle.slave.specs.Gap.{gapped}
 use Rattle.slave.specs.Calls.{startOf, packetOf, numbersOf, gapOf}
 use Rattle.run.specs.Adapter.{Adapter}
 use Rattle.run.specs.Book.{byValue, inPlace, packet, numbers, Call, at, gap, judged, Book, closed, verdictAt, untold, countPlace, tellGap, enter, enterCall}
-use Rattle.run.specs.Run.{hear, leave, begun, places, Rise, AllGenuine, Run}
+use Rattle.run.specs.Run.{hear, leave, begun, places, Run}
 use Rattle.run.specs.Claim.{toldExactly}
 
 -- profile 1; in each cadence a notice at label 620. The first mark is after the pulse, by 42 units
@@ -73,11 +73,6 @@ pub record Computed (A : Adapter) (g : Board) (calls : List Call) (answers : Lis
   pub run : Run g A calls
   pub replied : replies (begun g) calls ≡ answers
   pub booked : exact g closed calls ≡ told
-
-ran : {A : Adapter} {g : Board} {calls : List Call} {answers : List (Reply Report)} {told : List Bool}
-    → settingsKept g ≡ true → Rise 0 (places g closed calls) → AllGenuine g A closed calls → replies (begun g) calls ≡ answers
-    → exact g closed calls ≡ told → Computed A g calls answers told
-ran a r w e b = record { run = record { accepted = a; rising = r; genuine = w }; replied = e; booked = b }
 
 -- ---- the runs
 
@@ -147,14 +142,29 @@ pub computed :
     × Computed B k mipCalls mipReplies (false ∷ true ∷ true ∷ true ∷ [])
 unfolding places enterCall verdictAt judged enter countPlace tellGap untold hear leave startOf packetOf numbersOf gapOf sound settingsKept admits isMegaFrame atSomeRate second partsFit huntingFits isUnset isZero lockedFits frequencyFits indexFits waitingFits isNothing delayKept delayFits delayFitsA110 within arrivalRefusal carries takenRefusal limited judgeMip judgeArrived judgeGiven stepOf counted passed unheard took markAt markTaken noticeTaken releaseAt dueOf wrap modulation linkDelay gapped headRefusal sectionRefusal settingsOf entriesIn functionsOf functionsIn lengthFits setBy addressed register registerFrom bitsIn bitIn
 computed = (
-  ran refl (lit≤ tt, (lit≤ tt, (lit≤ tt, (lit≤ tt, tt))))
-  (tt, (record { points = refl; here = refl }, (tt, (tt, (tt, tt))))) refl refl,
-  ran refl (lit≤ tt, (lit≤ tt, (lit≤ tt, (lit≤ tt, (lit≤ tt, tt)))))
-  (record { points = refl; here = refl }, (tt, (tt, (record { points = refl; here = refl }, (tt, tt))))) refl refl,
-  ran refl (lit≤ tt, (lit≤ tt, (lit≤ tt, (lit≤ tt, (lit≤ tt, tt)))))
-  (record { points = refl; here = refl }, (tt, (tt, (tt, (record { points = refl; here = refl }, tt))))) refl refl,
-  ran refl (lit≤ tt, (lit≤ tt, tt))
-  (record { points = refl; here = refl }, (tt, tt)) refl refl,
-  ran refl (lit≤ tt, (lit≤ tt, (lit≤ tt, (lit≤ tt, tt))))
-  (record { points = refl; here = refl }, (tt, (tt, (tt, tt)))) refl refl,
+  record {
+    run = record { accepted = refl; rising = (lit≤ tt, (lit≤ tt, (lit≤ tt, (lit≤ tt, tt)))); genuine = (tt, (record { points = refl; here = refl }, (tt, (tt, (tt, tt))))) };
+    replied = refl;
+    booked = refl;
+  },
+  record {
+    run = record { accepted = refl; rising = (lit≤ tt, (lit≤ tt, (lit≤ tt, (lit≤ tt, (lit≤ tt, tt))))); genuine = (record { points = refl; here = refl }, (tt, (tt, (record { points = refl; here = refl }, (tt, tt))))) };
+    replied = refl;
+    booked = refl;
+  },
+  record {
+    run = record { accepted = refl; rising = (lit≤ tt, (lit≤ tt, (lit≤ tt, (lit≤ tt, (lit≤ tt, tt))))); genuine = (record { points = refl; here = refl }, (tt, (tt, (tt, (record { points = refl; here = refl }, tt))))) };
+    replied = refl;
+    booked = refl;
+  },
+  record {
+    run = record { accepted = refl; rising = (lit≤ tt, (lit≤ tt, tt)); genuine = (record { points = refl; here = refl }, (tt, tt)) };
+    replied = refl;
+    booked = refl;
+  },
+  record {
+    run = record { accepted = refl; rising = (lit≤ tt, (lit≤ tt, (lit≤ tt, (lit≤ tt, tt)))); genuine = (record { points = refl; here = refl }, (tt, (tt, (tt, tt)))) };
+    replied = refl;
+    booked = refl;
+  },
 )

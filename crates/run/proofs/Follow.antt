@@ -112,25 +112,26 @@ module _ (A : Adapter) (s : Slave) (some-n : 0 < s .board .n) where
         → Right (s .board) A (opened last u told od) t (labelBy n (opened last u told od) t) notice (passed s notice tick .reply)
         × Tracks A t (untold last u t) (passed s notice tick .slave)
     unfolding passed
-    passed-follows told od notice tick =
-        (record {
-          report = _;
-          counted = refl;
-          labelled = ap some (f .next ∙ label-behind n some-n (untold last u t) apart-at);
-          noticed = refl;
-          unit = λ p d m. own-due p d s tick m .unit;
-          timed = λ x m. time-at told od tick x (own-due _ _ s tick m);
-        },
-        record {
-          locked = refl;
-          place = f .place + 1;
-          apart = let d = apart-at in record { is = omega arith };
-          next = ap (nextLabel n) (f .next) ∙ mod-add-mod (f .place) n 1;
-          held =
-              split (IfPending n A (f .place + 1)) (eqb (s .count .next) 0) nothing (s .waiting)
-              (λ z. nothing-held n A (f .place) (s .waiting) (f .place + 1))
-              (λ z. held-on n A (f .place) (s .waiting) 1 (λ c a b. short n (f .place) c some-n a b (λ m. eqb-false _ _ z (f .next ∙ m))) (f .held));
-        })
+    passed-follows told od notice tick = (
+      record {
+        report = _;
+        counted = refl;
+        labelled = ap some (f .next ∙ label-behind n some-n (untold last u t) apart-at);
+        noticed = refl;
+        unit = λ p d m. own-due p d s tick m .unit;
+        timed = λ x m. time-at told od tick x (own-due _ _ s tick m);
+      },
+      record {
+        locked = refl;
+        place = f .place + 1;
+        apart = let d = apart-at in record { is = omega arith };
+        next = ap (nextLabel n) (f .next) ∙ mod-add-mod (f .place) n 1;
+        held =
+            split (IfPending n A (f .place + 1)) (eqb (s .count .next) 0) nothing (s .waiting)
+            (λ z. nothing-held n A (f .place) (s .waiting) (f .place + 1))
+            (λ z. held-on n A (f .place) (s .waiting) 1 (λ c a b. short n (f .place) c some-n a b (λ m. eqb-false _ _ z (f .next ∙ m))) (f .held));
+      },
+    )
 
   -- a gap of k
   gap-tracks : (last : ℕ) (u : ℤ) → Tracks A last u s → (k : ℕ) → Tracks A last (u -ℤ pos k) (gapped s k)
@@ -210,16 +211,17 @@ module _ (A : Adapter) (s : Slave) (some-n : 0 < s .board .n) where
       → Right (s .board) A b t (labelBy n b t) (noticeBy k) (counted s k tick .reply) × Follows A (countPlace b t) (counted s k tick .slave)
   unfolding counted countPlace unheard
   counted-follows closed f k t tick =
-      rw f
-      (record {
-        report = _;
-        counted = refl;
-        labelled = refl;
-        noticed = refl;
-        unit = λ p d m. absurd (unmarked-apart p d m);
-        timed = λ x m e. absurd (false≢true e);
-      },
-      f)
+      rw f (
+        record {
+          report = _;
+          counted = refl;
+          labelled = refl;
+          noticed = refl;
+          unit = λ p d m. absurd (unmarked-apart p d m);
+          timed = λ x m e. absurd (false≢true e);
+        },
+        f,
+      )
   counted-follows (opened last u told od) f k t tick = rw (f .locked) (passed-follows last u f t told od (noticeBy k) tick)
 
   -- the slave's own judgement j and the book's verdict v

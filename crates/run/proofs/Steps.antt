@@ -40,27 +40,27 @@ moves s (c ∷ cs) = moves (moved s c) cs
 
 -- ---- the OD in force is the book's
 
-abbrev OneOd : Book → Slave → Type 0
-OneOd b s = s .settings .od ≡ odOf b
+abbrev InForce : Book → Slave → Type 0
+InForce b s = s .settings .od ≡ odOf b
 
 place-od : (b : Book) (t : ℕ) → odOf (countPlace b t) ≡ odOf b
 unfolding countPlace
 place-od closed t = refl
 place-od (opened last u told od) t = refl
 
-step-od : (s : Slave) (b : Book) {j v : Judgement} → Alike j v → (t tick : ℕ) → OneOd b s → OneOd (enter b t v) (stepOf s j tick .slave)
+step-od : (s : Slave) (b : Book) {j v : Judgement} → Alike j v → (t tick : ℕ) → InForce b s → InForce (enter b t v) (stepOf s j tick .slave)
 unfolding stepOf took enter counted passed unheard
 step-od s b refused-alike t tick e = e
 step-od s b counted-alike t tick e = rw place-od (pick (λ (r : Result Report). r .slave .settings .od ≡ odOf b) (eqb (s .count .phase) 2) _ _ e e)
 step-od s b (taken-alike x y z o) t tick e = o
 
-gap-od : (s : Slave) (b : Book) (k : ℕ) → OneOd b s → OneOd (tellGap b k) (gapped s k)
+gap-od : (s : Slave) (b : Book) (k : ℕ) → InForce b s → InForce (tellGap b k) (gapped s k)
 unfolding gapped tellGap
-gap-od s closed k e = pick (OneOd closed) (eqb (s .count .phase) 2) _ _ e e
-gap-od s (opened last u told od) k e = pick (OneOd (opened last u told od)) (eqb (s .count .phase) 2) _ _ e e
+gap-od s closed k e = pick (InForce closed) (eqb (s .count .phase) 2) _ _ e e
+gap-od s (opened last u told od) k e = pick (InForce (opened last u told od)) (eqb (s .count .phase) 2) _ _ e e
 
 -- so the slave's judgement is the book's verdict
-verdict-own : (s : Slave) (b : Book) (a : Arrival) → OneOd b s → Alike (judged (s .board) (s .settings) a) (verdictAt (s .board) b a)
+verdict-own : (s : Slave) (b : Book) (a : Arrival) → InForce b s → Alike (judged (s .board) (s .settings) a) (verdictAt (s .board) b a)
 unfolding verdictAt judged
 verdict-own s b (packet form p tick) e = packet-alike (s .board) (s .settings) _ e p tick
 verdict-own s b (numbers p tick x) e = numbers-alike (s .board) (s .settings) _ e p tick x
@@ -69,7 +69,7 @@ verdict-own s b (numbers p tick x) e = numbers-alike (s .board) (s .settings) _ 
 
 record Holds (g : Board) (A : Adapter) (b : Book) (s : Slave) : Type 0 where
   board : s .board ≡ g
-  od : OneOd b s
+  od : InForce b s
   follows : Follows A b s
 
 abbrev GenuineCall : Board → Adapter → Book → Call → Type 0
@@ -80,7 +80,7 @@ abbrev pub RightStep : Board → Adapter → Book → Slave → Call → Type 0
 RightStep g A b s (at t a) = RightReply g A b t (verdictAt g b a) (stepped s a .reply)
 RightStep g A b s (gap k) = Unit {0}
 
-own-step : (A : Adapter) (b : Book) (s : Slave) → 0 < s .board .n → OneOd b s → Follows A b s → (c : Call) → GenuineCall (s .board) A b c
+own-step : (A : Adapter) (b : Book) (s : Slave) → 0 < s .board .n → InForce b s → Follows A b s → (c : Call) → GenuineCall (s .board) A b c
     → RightStep (s .board) A b s c × Holds (s .board) A (enterCall (s .board) b c) (moved s c)
 unfolding enterCall
 own-step A b s some od f (at t a) w =
