@@ -143,27 +143,27 @@ pub computed :
 unfolding places enterCall verdictAt judged enter countPlace tellGap untold hear leave startOf packetOf numbersOf gapOf sound settingsKept admits isMegaFrame atSomeRate second partsFit huntingFits isUnset isZero lockedFits frequencyFits indexFits waitingFits isNothing delayKept delayFits delayFitsA110 within arrivalRefusal carries takenRefusal limited judgeMip judgeArrived judgeGiven stepOf counted passed unheard took markAt markTaken noticeTaken releaseAt dueOf wrap modulation linkDelay gapped headRefusal sectionRefusal settingsOf entriesIn functionsOf functionsIn lengthFits setBy addressed register registerFrom bitsIn bitIn
 computed = (
   record {
-    run = record { accepted = refl; rising = (lit≤ tt, (lit≤ tt, (lit≤ tt, (lit≤ tt, tt)))); genuine = (tt, (record { points = refl; here = refl }, (tt, (tt, (tt, tt))))) };
+    run = record { accepted = refl; rising = (lit≤ tt, (lit≤ tt, (lit≤ tt, (lit≤ tt, tt)))); genuine = (tt, (record { points = refl; here = refl }, (tt, (tt, (tt, (tt, tt)))))) };
     replied = refl;
     booked = refl;
   },
   record {
-    run = record { accepted = refl; rising = (lit≤ tt, (lit≤ tt, (lit≤ tt, (lit≤ tt, (lit≤ tt, tt))))); genuine = (record { points = refl; here = refl }, (tt, (tt, (record { points = refl; here = refl }, (tt, tt))))) };
+    run = record { accepted = refl; rising = (lit≤ tt, (lit≤ tt, (lit≤ tt, (lit≤ tt, (lit≤ tt, tt))))); genuine = (record { points = refl; here = refl }, (tt, (tt, (tt, (record { points = refl; here = refl }, (tt, (tt, tt))))))) };
     replied = refl;
     booked = refl;
   },
   record {
-    run = record { accepted = refl; rising = (lit≤ tt, (lit≤ tt, (lit≤ tt, (lit≤ tt, (lit≤ tt, tt))))); genuine = (record { points = refl; here = refl }, (tt, (tt, (tt, (record { points = refl; here = refl }, tt))))) };
+    run = record { accepted = refl; rising = (lit≤ tt, (lit≤ tt, (lit≤ tt, (lit≤ tt, (lit≤ tt, tt))))); genuine = (record { points = refl; here = refl }, (tt, (tt, (tt, (tt, (tt, (record { points = refl; here = refl }, tt))))))) };
     replied = refl;
     booked = refl;
   },
   record {
-    run = record { accepted = refl; rising = (lit≤ tt, (lit≤ tt, tt)); genuine = (record { points = refl; here = refl }, (tt, tt)) };
+    run = record { accepted = refl; rising = (lit≤ tt, (lit≤ tt, tt)); genuine = (record { points = refl; here = refl }, (tt, (tt, tt))) };
     replied = refl;
     booked = refl;
   },
   record {
-    run = record { accepted = refl; rising = (lit≤ tt, (lit≤ tt, (lit≤ tt, (lit≤ tt, tt)))); genuine = (record { points = refl; here = refl }, (tt, (tt, (tt, tt)))) };
+    run = record { accepted = refl; rising = (lit≤ tt, (lit≤ tt, (lit≤ tt, (lit≤ tt, tt)))); genuine = (record { points = refl; here = refl }, (tt, (tt, (tt, (tt, tt))))) };
     replied = refl;
     booked = refl;
   },

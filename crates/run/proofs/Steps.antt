@@ -17,7 +17,7 @@ use Rattle.slave.specs.Gap.{gapped}
 use Rattle.slave.proofs.Sound.{step-board, gap-board}
 use Rattle.run.specs.Adapter.{Adapter}
 use Rattle.run.specs.Book.{Arrival, packet, numbers, Call, at, gap, judged, Book, closed, opened, odOf, verdictAt, countPlace, tellGap, enter, enterCall, bookAfter}
-use Rattle.run.specs.Run.{Genuine, AllGenuine}
+use Rattle.run.specs.Run.{GenuineCall, AllGenuine}
 use Rattle.run.specs.Claim.{RightReply}
 use Rattle.run.proofs.Follow.{Follows, step-follows, gap-follows}
 
@@ -72,10 +72,6 @@ record Holds (g : Board) (A : Adapter) (b : Book) (s : Slave) : Type 0 where
   od : InForce b s
   follows : Follows A b s
 
-abbrev GenuineCall : Board → Adapter → Book → Call → Type 0
-GenuineCall g A b (at t a) = Genuine (g .n) A t (verdictAt g b a)
-GenuineCall g A b (gap k) = Unit {0}
-
 abbrev pub RightStep : Board → Adapter → Book → Slave → Call → Type 0
 RightStep g A b s (at t a) = RightReply g A b t (verdictAt g b a) (stepped s a .reply)
 RightStep g A b s (gap k) = Unit {0}
@@ -98,18 +94,11 @@ module _ (g : Board) (A : Adapter) (some : 0 < g .n) where
       subst (λ (x : Board). 0 < x .n → GenuineCall x A b c → RightStep x A b s c × Holds x A (enterCall x b c) (moved s c)) (h .board)
       (λ m. own-step A b s m (h .od) (h .follows) c) some w
 
-  -- the call to come
-  next-genuine : (b : Book) (c : Call) (after : List Call) → AllGenuine g A b (c ∷ after) → GenuineCall g A b c × AllGenuine g A (enterCall g b c) after
-  next-genuine b (at t a) after w = w
-  next-genuine b (gap k) after w = (tt, w)
-
   reach : (b : Book) (s : Slave) → Holds g A b s → (before after : List Call) → AllGenuine g A b (before ++ after)
       → Holds g A (bookAfter g b before) (moves s before) × AllGenuine g A (bookAfter g b before) after
   unfolding bookAfter
   reach b s h [] after w = (h, w)
-  reach b s h (c ∷ before) after w =
-      let v = next-genuine b c (before ++ after) w in
-      reach (enterCall g b c) (moved s c) (step-holds b s h c (v .0) .1) before after (v .1)
+  reach b s h (c ∷ before) after w = reach (enterCall g b c) (moved s c) (step-holds b s h c (w .0) .1) before after (w .1)
 
   reached : (before after : List Call) → AllGenuine g A closed (before ++ after)
       → Holds g A (bookAfter g closed before) (moves (hunting g) before) × AllGenuine g A (bookAfter g closed before) after
@@ -124,4 +113,4 @@ module _ (g : Board) (A : Adapter) (some : 0 < g .n) where
       → RightStep g A (bookAfter g closed before) (moves (hunting g) before) c
   any-cadence before after c w =
       let r = reached before (c ∷ after) w in
-      step-holds (bookAfter g closed before) _ (r .0) c (next-genuine (bookAfter g closed before) c after (r .1) .0) .0
+      step-holds (bookAfter g closed before) _ (r .0) c (r .1 .0) .0

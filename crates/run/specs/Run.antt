@@ -55,10 +55,13 @@ Genuine n A t (Refuse k) = Unit {0}
 Genuine n A t (Counts k) = Unit {0}
 Genuine n A t (Takes x) = Wrote n A t (x .pointer) (x .sts) (x .md)
 
+abbrev pub GenuineCall : Board → Adapter → Book → Call → Type 0
+GenuineCall g A b (at t a) = Genuine (g .n) A t (verdictAt g b a)
+GenuineCall g A b (gap k) = Unit {0}
+
 abbrev pub AllGenuine : Board → Adapter → Book → List Call → Type 0
 AllGenuine g A b [] = Unit {0}
-AllGenuine g A b (at t a ∷ cs) = Genuine (g .n) A t (verdictAt g b a) × AllGenuine g A (enterCall g b (at t a)) cs
-AllGenuine g A b (gap k ∷ cs) = AllGenuine g A (enterCall g b (gap k)) cs
+AllGenuine g A b (c ∷ cs) = GenuineCall g A b c × AllGenuine g A (enterCall g b c) cs
 
 pub record Run (g : Board) (A : Adapter) (calls : List Call) : Type 0 where
   pub accepted : settingsKept g ≡ true
