@@ -23,7 +23,7 @@ module _ (s : Slave) (tick : ℕ) where
       let b = second-small (s .board .profile) in (
         omega (arith, b, q),
         subst (λ (z : ℤ). Kept u (s .waiting .sts) (s .waiting .md) z (s .board .tad) tick) (sym o)
-        (subst (λ (v : ℕ). Kept v (s .waiting .sts) (s .waiting .md) (s .settings .od) (s .board .tad) tick) (sym q) k),
+            (subst (λ (v : ℕ). Kept v (s .waiting .sts) (s .waiting .md) (s .settings .od) (s .board .tad) tick) (sym q) k),
       )
 
   -- of the slave's own values

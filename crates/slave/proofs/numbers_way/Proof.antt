@@ -64,19 +64,19 @@ enum-known-t : tie.Need-enum-known-t
 enum-known-t c = search needs
 
 take-requires : tie.Need-take-requires
-take-requires c κs = 
+take-requires c κs =
     let e = sym (c .before .before .before .judge-given .ensures) ∙ ap judgementOf (c .before .t .given .1) in
     (ready (c .before .before .before .before .before .before .before), given-limits _ _ _ _ _ e .pointer)
 
 returns-5 : tie.Need-returns-5
 unfolding stepOf
-returns-5 c = 
+returns-5 c =
     let e = sym (c .before .before .before .before .judge-given .ensures) ∙ ap judgementOf (c .before .before .k .given .1) in
     c .count .ensures ∙ numbers-steps _ _ _ _ (is-sound (c .before .before .before .before .before .before .before .before .before .before)) (arrived (c .before .before .before .before .before .before .before .before)) (c .before .before .before .before .before .before .if4 .left) _ (sym e)
 
 returns-6 : tie.Need-returns-6
 unfolding stepOf
-returns-6 c = 
+returns-6 c =
     let e = sym (c .before .before .before .before .judge-given .ensures) ∙ ap judgementOf (c .before .before .t .given .1) in
     c .take .ensures ∙ numbers-steps _ _ _ _ (is-sound (c .before .before .before .before .before .before .before .before .before .before)) (arrived (c .before .before .before .before .before .before .before .before)) (c .before .before .before .before .before .before .if4 .left) _ (sym e)
 

@@ -61,19 +61,19 @@ enum-known-t : tie.Need-enum-known-t
 enum-known-t c = search needs
 
 take-requires : tie.Need-take-requires
-take-requires c κs = 
+take-requires c κs =
     let e = sym (c .before .before .before .judge-arrived .ensures) ∙ ap judgementOf (c .before .t .given .1) in
     (ready (c .before .before .before .before .before), arrived-limits _ _ _ _ e .pointer)
 
 returns-4 : tie.Need-returns-4
 unfolding stepOf
-returns-4 c = 
+returns-4 c =
     let e = sym (c .before .before .before .before .judge-arrived .ensures ∙ refl) ∙ ap judgementOf (c .before .before .k .given .1) in
     c .count .ensures ∙ packet-steps _ _ _ (is-sound (c .before .before .before .before .before .before .before .before)) (arrived (c .before .before .before .before .before .before)) _ (sym e)
 
 returns-5 : tie.Need-returns-5
 unfolding stepOf
-returns-5 c = 
+returns-5 c =
     let e = sym (c .before .before .before .before .judge-arrived .ensures) ∙ ap judgementOf (c .before .before .t .given .1) in
     c .take .ensures ∙ packet-steps _ _ _ (is-sound (c .before .before .before .before .before .before .before .before)) (arrived (c .before .before .before .before .before .before)) _ (sym e)
 

@@ -44,7 +44,7 @@ locked-at-requires : tie.Need-locked-at-requires
 locked-at-requires c κs = search needs
 
 returns-2 : tie.Need-returns-2
-returns-2 c = 
+returns-2 c =
     let a = c .before .before .before .before .before .before .before .before .before .before .before .before .args in
     gap-kept (a .s) (a .k) (c .before .before .before .before .before .before .if1 .left) _ (c .before .before .before .to-mark .ensures) _ _ (c .locked-at .ensures) (c .before .raised .ensures) (c .before .before .if2 .taken)
 
@@ -70,7 +70,7 @@ nothing-waiting-requires : tie.Need-nothing-waiting-requires
 nothing-waiting-requires c κs = search needs
 
 returns-3 : tie.Need-returns-3
-returns-3 c = 
+returns-3 c =
     let a = c .before .before .before .before .before .before .before .before .before .before .before .before .before .args in
     gap-dropped (a .s) (a .k) (c .before .before .before .before .before .before .before .if1 .left) _ (c .before .before .before .before .to-mark .ensures) _ _ (c .before .locked-at2 .ensures) (c .before .before .raised2 .ensures) (c .before .before .before .if2 .left) (c .nothing-waiting .ensures)
 

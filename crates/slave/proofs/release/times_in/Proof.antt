@@ -25,7 +25,7 @@ reference-time-requires : tie.Need-reference-time-requires
 reference-time-requires c κs = search needs
 
 modulation-time-requires : tie.Need-modulation-time-requires
-modulation-time-requires c κs = 
+modulation-time-requires c κs =
     let s = c .before .before .before in
     let a = s .args in
     let k = s .pre .1 in
@@ -35,14 +35,14 @@ wait-for-requires : tie.Need-wait-for-requires
 wait-for-requires c κs = search needs
 
 returns : tie.Need-returns
-returns c = 
+returns c =
     let s = c .before .before .before .before .before in
     let a = s .args in
     let e = emits (c .before .before .before .before) in
     let w =
-        toZ-ofZ {w = w64} (record { sfits = c .wait-for .ok }) ∙ c .wait-for .ensures
-        ∙ ap (λ (z : ℤ). wait (a .md) z (a .tad) (c .before .before .before .link-delay .result)) (toZ-ofZ (s .fits .od))
-        ∙ ap (wait (a .md) (a .od) (a .tad)) (c .before .before .before .link-delay .ensures) in
+    toZ-ofZ {w = w64} (record { sfits = c .wait-for .ok }) ∙ c .wait-for .ensures
+    ∙ ap (λ (z : ℤ). wait (a .md) z (a .tad) (c .before .before .before .link-delay .result)) (toZ-ofZ (s .fits .od))
+    ∙ ap (wait (a .md) (a .od) (a .tad)) (c .before .before .before .link-delay .ensures) in
     same-times (c .before .before .reference-time .ensures) e (c .before .modulation-time .ensures ∙ ap (λ (n : ℕ). modulation (a .u) n (a .tad)) e) w
 
 pub times-in-spec : {M : Type 1} → statement M

@@ -13,7 +13,7 @@ notice-by-requires : tie.Need-notice-by-requires
 notice-by-requires c κs = search needs
 
 returns : tie.Need-returns
-returns c = 
+returns c =
     let a = c .before .before .before .before .before .args in
     counts-unheard (a .s) (a .k) (a .tick) (c .before .if1 .taken) (noticeOf (c .notice-by .result)) (c .notice-by .ensures)
 
@@ -30,7 +30,7 @@ place-of-requires : tie.Need-place-of-requires
 place-of-requires c κs = search needs
 
 returns-2 : tie.Need-returns-2
-returns-2 c = 
+returns-2 c =
     let a = c .before .before .before .before .before .before .before .before .before .args in
     counts-on (a .s) (a .k) (a .tick) (c .before .before .before .before .before .if1 .left) (noticeOf (c .before .notice-by2 .result)) (c .before .notice-by2 .ensures) (c .before .before .locked-at .result) (optionOf (c .place-of .result)) (c .before .before .before .before .if2 .taken)
     (c .before .before .locked-at .ensures ∙ ap (λ (x : ℕ). lockedAt x (a .s .count .index)) (c .before .before .before .next-label .ensures)) (c .place-of .ensures)
@@ -57,7 +57,7 @@ place-of-requires-2 : tie.Need-place-of-requires-2
 place-of-requires-2 c κs = search needs
 
 returns-3 : tie.Need-returns-3
-returns-3 c = 
+returns-3 c =
     let a = c .before .before .before .before .before .before .before .before .before .before .before .before .before .args in
     counts-mark (a .s) (a .k) (a .tick) (c .before .before .before .before .before .before .before .before .before .if1 .left) (noticeOf (c .before .before .notice-by3 .result)) (c .before .before .notice-by3 .ensures) (c .before .before .before .before .locked-at2 .result) (optionOf (c .place-of2 .result)) (markOf (c .before .mark-due .result)) (c .before .before .before .before .before .before .raised .result) (c .before .before .before .nothing-waiting .result) (c .before .before .before .before .before .before .before .before .if2 .left) (c .before .before .before .before .before .before .raised .ensures)
     (c .before .before .before .before .locked-at2 .ensures ∙ ap (λ (x : ℕ). lockedAt x (c .before .before .before .before .before .before .raised .result)) (c .before .before .before .before .before .next-label2 .ensures)) (c .before .mark-due .ensures) (c .place-of2 .ensures) (c .before .before .before .nothing-waiting .ensures)

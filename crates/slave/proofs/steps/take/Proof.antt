@@ -39,7 +39,7 @@ place-of-requires : tie.Need-place-of-requires
 place-of-requires c κs = search needs
 
 returns : tie.Need-returns
-returns c = 
+returns c =
     let a = c .before .before .before .before .before .before .before .before .before .before .before .before .before .args in
     takes (a .s) (a .t) (a .tick) _ refl (noticeOf (c .before .before .before .notice-taken .result)) (markOf (c .before .mark-taken .result)) (c .before .before .before .before .before .before .before .index-before .result) (c .before .before .before .before .before .before .index-after .result) (c .before .before .turned .result) (optionOf (c .place-of .result)) _ (c .before .before .before .before .locked-at .result)
     (c .before .before .before .notice-taken .ensures) (c .before .mark-taken .ensures) (c .before .before .before .before .before .before .before .index-before .ensures) (c .before .before .before .before .before .before .index-after .ensures) (c .before .before .turned .ensures) (c .place-of .ensures) refl
