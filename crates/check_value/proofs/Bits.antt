@@ -1,6 +1,5 @@
 -- Laws of the bits that enter the decoder: the step is linear over xor and loses nothing, bits that enter together enter one after the other,
 -- and a register's own bits empty it.
--- Assumes nothing.
 use mathlib.Core.Path.{_≡_, refl, sym, ap, ap₂, _∙_, subst}
 use Prim.Native.Nat.{ℕ, zero, suc, _+_, _*_, _/_, _%_, _^_, _<_, _≤_}
 use native.Mathlib.Nat.{zero-add, suc-add, add-comm, add-mul, mul-assoc, mul-comm, mul-one, mod-lt, mod-one, mod-eq-of-lt, zero-mul, zero-div, pow-suc, mul-le-mul-left}

@@ -1,6 +1,5 @@
 -- What the check value is good for (TS 101 191 annex A and clause 6, crc_32): bytes followed by their own register leave zero, no other four bytes
 -- do, and a change within one byte is never missed.
--- Assumes nothing.
 use mathlib.Core.Path.{_≡_, refl, sym, ap, ap₂, _∙_}
 use mathlib.Core.List.{List, [], _∷_, _++_}
 use Prim.Native.Nat.{ℕ, zero, suc, _*_, _/_, _%_, _^_, _<_}

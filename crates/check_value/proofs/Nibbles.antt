@@ -1,5 +1,4 @@
 -- What some nibbles leave of a register of zeros is the sum of what each of them leaves.
--- Assumes nothing.
 use mathlib.Core.Path.{_≡_, sym, ap, ap₂, _∙_}
 use Prim.Native.Nat.{ℕ, zero, suc, _+_, _*_, _/_, _%_, _^_}
 use native.Mathlib.Nat.{add-zero, add-comm, suc-mul, zero-mul, div-one, mod-lt}

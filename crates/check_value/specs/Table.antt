@@ -1,5 +1,4 @@
 -- What the steps inside `register_of` promise each other: its own promise cites nothing of this file.
--- Assumes nothing.
 use mathlib.Core.Path.{_≡_}
 use mathlib.Core.List.{List}
 use Prim.Native.Nat.{ℕ, _*_, _/_, _%_, _<_}

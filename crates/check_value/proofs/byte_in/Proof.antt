@@ -1,5 +1,4 @@
 -- `byte_in` meets its contract: the byte is added to the top of the register, and the sum's two nibbles are looked up.
--- Assumes nothing.
 use mathlib.Core.Path.{_≡_, refl, sym, ap₂, _∙_}
 use Prim.Native.Nat.{ℕ, _*_, _/_, _%_, _^_}
 use native.Mathlib.Omega.{arith}

@@ -1,5 +1,4 @@
 -- `nibble_in` meets its contract, by the table's rule at the one entry that it reads.
--- Assumes nothing.
 use mathlib.Core.Path.{_≡_, ap₂, _∙_}
 use Prim.Native.Nat.{ℕ, _+_, _*_, _/_, _%_, _^_}
 use native.Mathlib.Omega.{arith}

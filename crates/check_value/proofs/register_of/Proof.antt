@@ -1,5 +1,4 @@
 -- `register_of` meets its contract: the invariant of both loops is `Reached`.
--- Assumes nothing.
 use mathlib.Core.Path.{refl}
 use Prim.Native.Nat.{_-_}
 use native.Mathlib.Omega.{arith}

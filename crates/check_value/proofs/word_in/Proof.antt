@@ -1,5 +1,4 @@
 -- `word_in` meets its contract: the word's eight nibbles, each looked up.
--- Assumes nothing.
 use mathlib.Core.Path.{ap₂, _∙_}
 use lib.Bits.{bitXor}
 use borrow.Author.Needs.{needs}
