@@ -126,9 +126,9 @@ fn mip_taken(p: &[u8], settings: Settings) -> Taken
 fn judge_mip(b: Board, t: Settings, p: &[u8]) -> Judged
     ensures { λ r. ⌜ judgementOf r ≡ judgeMip b t (now (p .entry)) ⌝ }
 {
-    let number = notice::section_refusal(p);
-    if number != 0 {
-        return Judged::Counts(number);
+    let section = notice::section_refusal(p);
+    if section != 0 {
+        return Judged::Counts(section);
     }
     let field = notice::addressing_part(p);
     match addressing::settings_of(field, b.site, t) {
