@@ -1,5 +1,4 @@
 -- Bytes that are sealed: how many they are, and that the four bytes which the code puts behind them are their check value.
--- Assumes nothing.
 use mathlib.Core.Path.{_≡_, ap, _∙_}
 use mathlib.Core.List.{List, [], _∷_, _++_}
 use Prim.Native.Nat.{ℕ, _+_, _≤_, _<_}
