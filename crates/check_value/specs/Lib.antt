@@ -1,3 +1,3 @@
 -- The decoder of TS 101 191 annex A, and what the steps of its code promise each other.
 pub mod Register
-pub mod Table
+pub mod Nibble
