@@ -29,7 +29,7 @@ pub struct Reading {
 
 impl Mark {
     /// 0 none, 1 untimed, 2 late, 3 released in either profile.
-    pub fn sort(&self) -> u8 {
+    pub fn class(&self) -> u8 {
         self.kind.min(3)
     }
 }

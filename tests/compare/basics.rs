@@ -15,22 +15,17 @@ pub struct Basics;
 
 impl Subject for Basics {
     const NAME: &'static str = "the basics";
+    const REQUIRED: fn() -> Cases = required;
+    const FAULTS: &'static [Fault] = faults::BASICS;
     // nothing is kept from call to call
     const LONGEST: usize = 1;
     const SHORTENED: bool = false;
 
-    fn faults() -> Vec<(Fault, &'static str)> {
-        faults::BASICS.to_vec()
+    fn random(comparison: &mut Comparison<Self>) -> Compared {
+        comparison.random_call()
     }
 
-    fn required() -> Cases {
-        required()
-    }
-
-    fn run(comparison: &mut Comparison<Self>, count: u64) -> Compared {
-        while comparison.calls < count {
-            comparison.random_call()?;
-        }
+    fn sweeps(comparison: &mut Comparison<Self>) -> Compared {
         comparison.sweep_lengths()?;
         comparison.sweep_packet_bytes()?;
         comparison.sweep_residues()?;
@@ -122,7 +117,7 @@ impl Comparison<Basics> {
         let fits = self.same("delay fits", || format!("profile {profile}, {m:?}"), ours, other)?;
         self.saw(whose, "delay fits", fits);
         // released, late, or a number that refuses the packet
-        let number = match (reply.number, reply.mark.sort()) {
+        let number = match (reply.number, reply.mark.class()) {
             (0, 3) => 0,
             (0, 2) => 14,
             (0, kind) => return Err(self.differs(format!("{m:?}: a mark of kind {kind}"))),

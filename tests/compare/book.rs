@@ -9,7 +9,7 @@ use crate::inputs::notices::{self, WRONG_FORMS};
 use crate::inputs::random::Random;
 use crate::inputs::streams::*;
 use crate::other::basics::{self, second, Settings};
-use crate::other::faults::{self, Fault};
+use crate::other::faults::Fault;
 use crate::other::slave::{Numbers, Slave, COLD, UNKNOWN};
 use std::collections::BTreeMap;
 use std::fmt::Debug;
@@ -18,41 +18,28 @@ pub struct Runs;
 
 impl Subject for Runs {
     const NAME: &'static str = "runs by the book";
+    const REQUIRED: fn() -> Cases = required;
+    // those against which demand 3 stands
+    const FAULTS: &'static [Fault] = &[
+        Fault::RefusalUncounted,
+        Fault::LabelOffByOne,
+        Fault::SlipKeepsCount,
+        Fault::MarkSlips,
+        Fault::NewNoticeReleased,
+        Fault::FirstNoticeStays,
+        Fault::LateKept,
+        Fault::GapUncounted,
+        Fault::GapOf16Bits,
+        Fault::GapKeepsMark,
+        Fault::GapNeverDrops,
+    ];
     const LONGEST: usize = 7;
-    const SHORTENED: bool = true;
 
-    fn faults() -> Vec<(Fault, &'static str)> {
-        faults::SLAVE.iter().copied().filter(|(fault, _)| SPOILS_THE_BOOK.contains(fault)).collect()
-    }
-
-    fn required() -> Cases {
-        required()
-    }
-
-    /// Streams, each with two slaves on it. The proved slave is held to the book, and a faulty one where a fault is seeded.
-    fn run(comparison: &mut Comparison<Self>, count: u64) -> Compared {
-        let code = if comparison.seeded { calls::other } else { calls::ours };
-        while comparison.calls < count {
-            comparison.random_run(code)?;
-        }
-        Ok(())
+    /// A stream with two slaves on it: the proved one's, or faulty ones where a fault is seeded.
+    fn random(comparison: &mut Comparison<Self>) -> Compared {
+        comparison.random_run(if comparison.seeded { calls::other } else { calls::ours })
     }
 }
-
-/// Faults against which demand 3 stands.
-const SPOILS_THE_BOOK: &[Fault] = &[
-    Fault::RefusalUncounted,
-    Fault::LabelOffByOne,
-    Fault::SlipKeepsCount,
-    Fault::MarkSlips,
-    Fault::NewNoticeReleased,
-    Fault::FirstNoticeStays,
-    Fault::LateKept,
-    Fault::GapUncounted,
-    Fault::GapOf16Bits,
-    Fault::GapKeepsMark,
-    Fault::GapNeverDrops,
-];
 
 /// What 01's orders make of a call.
 enum Judged {
@@ -270,7 +257,7 @@ impl Listener {
         if taken {
             hold("a slip", reply.notice == 2, u % n != 0)?;
         }
-        if reply.mark.sort() == 3 {
+        if reply.mark.class() == 3 {
             // the adapter's notice for this mark stood before it
             let (sts, md) = self.book.adapter.times_after(place - 1);
             let sum = sts + md;

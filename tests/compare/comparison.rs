@@ -12,20 +12,26 @@ pub trait Subject: Sized {
     /// Its name in the report, and what is counted.
     const NAME: &'static str;
     const COUNTED: &'static str = "calls";
-    /// How many are compared where no COUNT is asked for, before the sweeps. A run of at least as many has to reach every case.
+
+    /// How many are compared at random where no COUNT is asked for, and at most.
     const COUNT: u64 = 1_000_000;
-    /// How many are compared at most.
     const MOST: u64 = u64::MAX;
-    /// Of what a failing sequence consists, how many its shortest may have, and whether the sequences are longer at first.
+
+    /// What a run of at least COUNT must reach.
+    const REQUIRED: fn() -> Cases;
+
+    /// The faults that are tried. Of what a failing sequence consists, how many its shortest may have, and whether the sequences are longer at first.
+    const FAULTS: &'static [Fault];
     const ITEMS: &'static str = "calls";
     const LONGEST: usize;
-    const SHORTENED: bool;
+    const SHORTENED: bool = true;
 
-    fn faults() -> Vec<(Fault, &'static str)>;
+    /// Some random calls, and what is tried after them.
+    fn random(comparison: &mut Comparison<Self>) -> Compared;
 
-    fn required() -> Cases;
-
-    fn run(comparison: &mut Comparison<Self>, count: u64) -> Compared;
+    fn sweeps(_: &mut Comparison<Self>) -> Compared {
+        Ok(())
+    }
 }
 
 /// What the program is asked for: [faults] [SEED [COUNT]].
@@ -89,6 +95,14 @@ impl<S: Subject> Comparison<S> {
         Comparison { seed, random: Random(seed), calls: 0, sequence: Sequence::default(), seeded, seen, subject: PhantomData }
     }
 
+    /// So many calls at random, and the sweeps.
+    fn run(&mut self, count: u64) -> Compared {
+        while self.calls < count {
+            S::random(self)?;
+        }
+        S::sweeps(self)
+    }
+
     /// Counts a case, if it is a required one.
     pub fn saw(&mut self, whose: &'static str, what: &'static str, value: impl Into<i64>) {
         if let Some(count) = self.seen.get_mut(&(whose, what, value.into())) {
@@ -142,9 +156,9 @@ impl<S: Subject> Comparison<S> {
 
 /// Compares, and prints what was covered or the first difference. A case never reached fails where the run is a whole one.
 fn covered<S: Subject>(seed: u64, count: u64, whole: bool) -> bool {
-    let cases = S::required();
-    let mut comparison = Comparison::new(seed, &cases, false);
-    if let Err(difference) = S::run(&mut comparison, count) {
+    let cases = S::REQUIRED();
+    let mut comparison = Comparison::<S>::new(seed, &cases, false);
+    if let Err(difference) = comparison.run(count) {
         println!("DIFFERENCE {}", difference.text);
         return false;
     }
@@ -157,15 +171,16 @@ fn covered<S: Subject>(seed: u64, count: u64, whole: bool) -> bool {
 
 /// Every fault in turn: each must make a difference, whose failing sequence becomes short and still fails.
 fn find_faults<S: Subject>(seed: u64, count: u64) -> bool {
-    let (faults, cases) = (S::faults(), S::required());
+    let (faults, cases) = (S::FAULTS, S::REQUIRED());
     let (longest, items, name) = (S::LONGEST, S::ITEMS, S::NAME);
     let mut missed = 0;
     // how long the failing sequences were before
     let mut before = 0;
-    for &(fault, what) in &faults {
-        let mut comparison = Comparison::new(seed, &cases, true);
+    for &fault in faults {
+        let what = fault.what();
+        let mut comparison = Comparison::<S>::new(seed, &cases, true);
         faults::seed(Some(fault));
-        let result = S::run(&mut comparison, count);
+        let result = comparison.run(count);
         faults::seed(None);
         let Err(Difference { text, whole, shortest, again }) = result else {
             println!("NOT FOUND: {what}");

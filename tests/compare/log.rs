@@ -22,23 +22,13 @@ impl Subject for Captures {
     const COUNT: u64 = 2_000;
     // a capture takes a process and its pipes
     const MOST: u64 = 20_000;
+    const REQUIRED: fn() -> Cases = required;
+    const FAULTS: &'static [Fault] = faults::LOG;
     const ITEMS: &'static str = "records";
     const LONGEST: usize = 4;
-    const SHORTENED: bool = true;
 
-    fn faults() -> Vec<(Fault, &'static str)> {
-        faults::LOG.to_vec()
-    }
-
-    fn required() -> Cases {
-        required()
-    }
-
-    fn run(comparison: &mut Comparison<Self>, count: u64) -> Compared {
-        while comparison.calls < count {
-            comparison.random_capture()?;
-        }
-        Ok(())
+    fn random(comparison: &mut Comparison<Self>) -> Compared {
+        comparison.random_capture()
     }
 }
 

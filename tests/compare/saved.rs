@@ -12,22 +12,17 @@ pub struct Blocks;
 
 impl Subject for Blocks {
     const NAME: &'static str = "the saved block";
+    const REQUIRED: fn() -> Cases = required;
+    const FAULTS: &'static [Fault] = faults::SAVED;
     // a save or a resume, at most with the resume that the slave came from
     const LONGEST: usize = 2;
     const SHORTENED: bool = false;
 
-    fn faults() -> Vec<(Fault, &'static str)> {
-        faults::SAVED.to_vec()
+    fn random(comparison: &mut Comparison<Self>) -> Compared {
+        comparison.random_block()
     }
 
-    fn required() -> Cases {
-        required()
-    }
-
-    fn run(comparison: &mut Comparison<Self>, count: u64) -> Compared {
-        while comparison.calls < count {
-            comparison.random_block()?;
-        }
+    fn sweeps(comparison: &mut Comparison<Self>) -> Compared {
         comparison.sweep_saves()?;
         comparison.sweep_lengths()?;
         comparison.sweep_distances()?;

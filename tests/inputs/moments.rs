@@ -28,6 +28,33 @@ impl Moment {
     }
 }
 
+/// An MD whose sum with this OD and TAD falls on one of its limits or beside it, or an MD on its own limits: kinds 0 to 5.
+pub fn md_on_limit(r: &mut Random, kind: usize, second: u32, od: i64, tad: i64) -> Option<i64> {
+    let u = i64::from(second);
+    let limit = match kind {
+        0 => return Some(r.pick(&edges(second)).into()),
+        1 => -od,
+        2 => u - od,
+        3 => -od - tad,
+        4 => u - od - tad,
+        5 => tad - od,
+        _ => return None,
+    };
+    Some(r.near(limit))
+}
+
+/// An STS, half of the time on its own limits or such that a sum falls on one of its limits or beside it.
+pub fn any_sts(r: &mut Random, second: u32, md: i64, od: i64, tad: i64) -> i64 {
+    let u = i64::from(second);
+    match r.below(8) {
+        0 => r.pick(&edges(second)).into(),
+        1 => r.near(u - md),
+        2 => r.near(u - md - od),
+        3 => r.near(tad - md - od).rem_euclid(u),
+        _ => r.below(second as usize) as i64,
+    }
+}
+
 /// STS, MD, OD, TAD and arrival, often such that a sum or the wait falls on one of its limits.
 pub fn moment(r: &mut Random, second: u32) -> Moment {
     let u = i64::from(second);
@@ -40,23 +67,12 @@ pub fn moment(r: &mut Random, second: u32) -> Moment {
         3 => r.below(second as usize) as i64,
         _ => r.below(3_000) as i64,
     };
-    let md = match r.below(12) {
-        0 => i64::from(r.pick(&edges(second))),
-        1 => r.near(-o),
-        2 => r.near(u - o),
-        3 => r.near(-o - tad),
-        4 => r.near(u - o - tad),
-        5 => r.near(tad - o),
+    let kind = r.below(12);
+    let md = md_on_limit(r, kind, second, o, tad).unwrap_or_else(|| match kind {
         6 => r.next() as u32 as i64,
         _ => r.below(second as usize) as i64,
-    };
-    let sts = match r.below(8) {
-        0 => i64::from(r.pick(&edges(second))),
-        1 => r.near(u - md),
-        2 => r.near(u - md - o),
-        3 => r.near(tad - md - o),
-        _ => r.below(second as usize) as i64,
-    };
+    });
+    let sts = any_sts(r, second, md, o, tad);
     let arrival = match r.below(12) {
         0 => i64::from(r.pick(&edges(second))),
         1 => r.near(sts).rem_euclid(u),

@@ -1,6 +1,7 @@
 //! Inputs for a slave: an adapter's stream, settings, times and ticks on their limits, packets, and slaves of any parts.
 
-use super::notices::{self, edges, WRONG_FORMS};
+use super::moments::{any_sts, md_on_limit};
+use super::notices::{self, WRONG_FORMS};
 use super::random::Random;
 use crate::other::basics::{self, second, Notice, A110_SECOND, DVB_SECOND};
 use crate::other::slave::{Slave, LOCKED, UNKNOWN};
@@ -94,24 +95,10 @@ pub fn any_offset(r: &mut Random) -> i16 {
 
 /// STS and MD, often such that a sum with this OD and TAD falls on one of its limits, at times beyond a second.
 pub fn any_times(r: &mut Random, second: u32, od: i16, tad: u32) -> (u32, u32) {
-    let [u, tad] = [second, tad].map(i64::from);
-    let od = i64::from(od);
-    let md = match r.below(16) {
-        0 => i64::from(r.pick(&edges(second))),
-        1 => r.near(-od),
-        2 => r.near(u - od),
-        3 => r.near(-od - tad),
-        4 => r.near(u - od - tad),
-        5 => r.near(tad - od),
-        _ => 40_000 + r.below(second as usize / 2) as i64,
-    };
-    let sts = match r.below(8) {
-        0 => i64::from(r.pick(&edges(second))),
-        1 => r.near(u - md),
-        2 => r.near(u - md - od),
-        3 => r.near(tad - md - od).rem_euclid(u),
-        _ => r.below(second as usize) as i64,
-    };
+    let (od, tad) = (i64::from(od), i64::from(tad));
+    let kind = r.below(16);
+    let md = md_on_limit(r, kind, second, od, tad).unwrap_or_else(|| 40_000 + r.below(second as usize / 2) as i64);
+    let sts = any_sts(r, second, md, od, tad);
     let number = |x: i64| x.clamp(0, u32::MAX.into()) as u32;
     (number(sts), number(md))
 }

@@ -7,9 +7,15 @@ use std::sync::atomic::{AtomicUsize, Ordering::Relaxed};
 /// The faults by what they are in, each with what it does wrong.
 macro_rules! faults {
     ($($(#[$about:meta])* $list:ident: $($name:ident: $what:literal,)*;)*) => {
-        #[derive(Clone, Copy, Debug, PartialEq)]
+        #[derive(Clone, Copy)]
         pub enum Fault { $($($name,)*)* }
-        $($(#[$about])* pub const $list: &[(Fault, &str)] = &[$((Fault::$name, $what)),*];)*
+        $($(#[$about])* pub const $list: &[Fault] = &[$(Fault::$name),*];)*
+
+        impl Fault {
+            pub fn what(self) -> &'static str {
+                match self { $($(Fault::$name => $what,)*)* }
+            }
+        }
     };
 }
 

@@ -131,7 +131,7 @@ impl Calls {
                 Step::from((moved, reply))
             });
             assert!(plain == [ours; 3] && lent == [ours; 3], "{slave:?} {ours:?} {plain:?}");
-            assert!((ours.reply.number, ours.reply.notice, ours.reply.mark.sort()) == (0, notice, mark), "{slave:?} {ours:?}");
+            assert!((ours.reply.number, ours.reply.notice, ours.reply.mark.class()) == (0, notice, mark), "{slave:?} {ours:?}");
         }
         let Calls { slaves, packets } = self;
         let c_slaves = &of_c(slaves);

@@ -12,21 +12,15 @@ pub struct Calls;
 
 impl Subject for Calls {
     const NAME: &'static str = "the slave";
+    const REQUIRED: fn() -> Cases = required;
+    const FAULTS: &'static [Fault] = faults::SLAVE;
     const LONGEST: usize = 4;
-    const SHORTENED: bool = true;
 
-    fn faults() -> Vec<(Fault, &'static str)> {
-        faults::SLAVE.to_vec()
+    fn random(comparison: &mut Comparison<Self>) -> Compared {
+        comparison.random_run()
     }
 
-    fn required() -> Cases {
-        required()
-    }
-
-    fn run(comparison: &mut Comparison<Self>, count: u64) -> Compared {
-        while comparison.calls < count {
-            comparison.random_run()?;
-        }
+    fn sweeps(comparison: &mut Comparison<Self>) -> Compared {
         comparison.sweep_starts()?;
         comparison.sweep_lengths()?;
         comparison.sweep_parts()?;

@@ -116,7 +116,7 @@ impl Comparison<Calls> {
         if reply.number != 0 {
             return Ok(());
         }
-        let mark = reply.mark.sort();
+        let mark = reply.mark.class();
         self.listed(whose, "100 × phase + 10 × notice + mark", 100 * i64::from(before.phase) + 10 * i64::from(reply.notice) + i64::from(mark))?;
         if reply.notice == 3 {
             self.listed(whose, if before.phase == HUNTING { "hunting, ignored with" } else { "locked, ignored with" }, reply.ignored)?;
