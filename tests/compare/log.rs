@@ -1,5 +1,4 @@
-//! What the log program prints compared, byte for byte, over random captures in pipes of many sizes. Of a capture that shows a difference, the shortest
-//! found is kept in a file.
+//! What the log program prints compared, byte for byte, over random captures in pipes of many sizes.
 
 use super::comparison::{Cases, Compared, Comparison, Difference, Subject};
 use super::shrink;
@@ -13,6 +12,9 @@ use std::os::fd::{AsRawFd, RawFd};
 use std::process::{ChildStdin, Command, Stdio};
 
 const PROGRAM: &str = "target/bin/log";
+
+/// Where the shortest capture found is kept that shows a difference with no fault seeded.
+const KEPT: &str = "target/tests/difference.bin";
 
 pub struct Captures;
 
@@ -278,12 +280,15 @@ impl Comparison<Captures> {
             (ours != other).then_some(records.len())
         };
         let shortest = shrink::shortest(&records, differ, |_, _| Vec::new(), |_| Vec::new());
-        let file = "target/tests/compare_log.bin";
-        std::fs::write(file, with(&shortest)).expect("the capture is kept");
         let [ours, other] = both(&shortest);
         let again = ours != other;
         let [ours, other] = [ours, other].map(|text| String::from_utf8_lossy(&text).into_owned());
-        let text = format!("seed {} capture {}, {how:?}, the shortest found kept in {file}\nours\n{ours}other\n{other}", self.seed, self.calls);
+        let mut text = format!("seed {} capture {}, {how:?}", self.seed, self.calls);
+        if !self.seeded {
+            std::fs::write(KEPT, with(&shortest)).expect("the capture is kept");
+            text += &format!("; the shortest found that differs is {KEPT}");
+        }
+        text += &format!("\nours\n{ours}other\n{other}");
         Difference { text, whole: records.len(), shortest: shortest.len(), again }
     }
 }
