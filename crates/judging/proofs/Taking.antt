@@ -1,17 +1,16 @@
 -- What a judgement depends on: frequency and power do not matter to it. And what a notice that is taken keeps.
-use mathlib.Core.Path.{_≡_, refl, sym, ap, _∙_, subst}
-use mathlib.Core.Bool.{Bool, true, false, cond, _&&_, _||_, false≢true}
+use mathlib.Core.Path.{_≡_, refl, sym, _∙_, subst}
+use mathlib.Core.Bool.{Bool, true, false, cond, false≢true}
 use mathlib.Core.List.{List}
 use Prim.Native.Nat.{ℕ, zero, suc, _-_}
 use native.Mathlib.Omega.{arith}
 use lib.Dec.{eqb, ltb}
 use lib.IntN.{ℤ, pos, negsuc}
 use borrow.Author.Tests.{ltb-false, le-leb}
-use Rattle.wire.specs.Reply.{Reply, refused, given, must}
+use Rattle.wire.specs.Reply.{Reply, refused, given}
 use Rattle.wire.specs.BigEndian.{be24At}
 use Rattle.wire.specs.Signed.{signed24}
-use Rattle.wire.proofs.Tests.{both, join, pick, pair, must-be, must-not, no}
-use Rattle.times.specs.Release.{inSecond}
+use Rattle.wire.proofs.Tests.{both, join, pick, split, pair, no}
 use Rattle.cadence.specs.Cadence.{admits}
 use Rattle.addressing.specs.Functions.{setBy}
 use Rattle.addressing.specs.Entries.{settingsOf}
@@ -19,7 +18,6 @@ use Rattle.addressing.specs.declared.Settings.{Settings}
 use Rattle.addressing.proofs.Both.{Both, settings-both, OneOd, od-kept}
 use Rattle.notice.specs.Mip.{errorIndicator, addressingField}
 use Rattle.notice.specs.Reader.{sectionRefusal}
-use Rattle.state.specs.Profile.{second, delayKept}
 use Rattle.state.specs.Sound.{frequencyFits, indexFits}
 use Rattle.state.specs.declared.Board.{Board}
 use Rattle.judging.specs.Judge.{unlessRefused, unlessIgnored, arrivalRefusal, carries, takenRefusal, limited, mipTaken, judgeField, judgeMip, judgeArrived, judgePacket, numbersTaken, judgeGiven, judgeNumbers}
@@ -87,33 +85,26 @@ module _ (b : Board) (t u : Settings) (e : OneOd t u) (p : List ℕ) (tick : ℕ
       counted-alike))
 
 -- ---- what a notice that is taken keeps
+
+-- whatever a judgement takes has P
+abbrev pub IfTaken : (Taken → Type 0) → Judgement → Type 0
+IfTaken P (Refuse k) = Unit {0}
+IfTaken P (Counts k) = Unit {0}
+IfTaken P (Takes x) = P x
+
 pub record Fit (b : Board) (x : Taken) : Type 0 where
   pub limits : Limits b x
   pub frequency : frequencyFits (x .settings .frequency) ≡ true
   pub index : indexFits (b .profile) (x .index) ≡ true
 
--- any other judgement is not taken
-counts-apart : (k : ℕ) (x : Taken) → Counts k ≡ Takes x → ⊥
-counts-apart k x e = let z : _≡_ {A = ℕ} 0 1 = cc in omega arith
+module _ (P : Taken → Type 0) where
+  if-unrefused : (k : ℕ) (j : Judgement) → IfTaken P j → IfTaken P (unlessRefused k j)
+  if-unrefused zero j h = h
+  if-unrefused (suc k) j h = tt
 
-refuses-apart : (k : ℕ) (x : Taken) → Refuse k ≡ Takes x → ⊥
-refuses-apart k x e = let z : _≡_ {A = ℕ} 0 1 = cc in omega arith
-
-unrefused : (k : ℕ) (j : Judgement) (x : Taken) → unlessRefused k j ≡ Takes x → j ≡ Takes x
-unrefused zero j x e = e
-unrefused (suc k) j x e = absurd (refuses-apart (suc k) x e)
-
-unignored : (k : ℕ) (j : Judgement) (x : Taken) → unlessIgnored k j ≡ Takes x → (k ≡ 0) × (j ≡ Takes x)
-unignored zero j x e = (refl, e)
-unignored (suc k) j x e = absurd (counts-apart (suc k) x e)
-
-limited-fit : (b : Board) (y x : Taken) → frequencyFits (y .settings .frequency) ≡ true → indexFits (b .profile) (y .index) ≡ true
-    → limited b y ≡ Takes x → Fit b x
-unfolding limited
-limited-fit b y x f i e =
-    let u = unignored (takenRefusal b y) (Takes y) x e in
-    let same : y ≡ x = cc (u .1) in
-    subst (Fit b) same (record { limits = limits-kept b y (u .0); frequency = f; index = i })
+  if-unignored : (k : ℕ) (j : Judgement) → (k ≡ 0 → IfTaken P j) → IfTaken P (unlessIgnored k j)
+  if-unignored zero j h = h refl
+  if-unignored (suc k) j h = tt
 
 -- an addressing field keeps the frequency within its bits
 signed-fits : (v : ℕ) → frequencyFits (signed24 v) ≡ true
@@ -129,15 +120,8 @@ InBits t u = frequencyFits (u .frequency) ≡ true
 
 bits-kept : (tag : ℕ) (body : List ℕ) (t u : Settings) → InBits t u → InBits (setBy tag body t) (setBy tag body u)
 unfolding setBy
-bits-kept tag body t u h = pick P (eqb tag 0) _ _ h (pick P (eqb tag 1) _ _ (signed-fits (be24At body 0)) (pick P (eqb tag 2) _ _ h h))
-  where
-    P : Settings → Type 0
-    P = InBits t
-
-field-fit : (b : Board) (p : List ℕ) (r : Reply Settings) (x : Taken) → Both InBits r r → judgeField b p r ≡ Takes x → Fit b x
-unfolding indexFits
-field-fit b p (refused k) x h e = absurd (counts-apart k x e)
-field-fit b p (given t) x h e = limited-fit b (mipTaken p t) x h refl e
+bits-kept tag body t u h =
+    pick (InBits t) (eqb tag 0) _ _ h (pick (InBits t) (eqb tag 1) _ _ (signed-fits (be24At body 0)) (pick (InBits t) (eqb tag 2) _ _ h h))
 
 -- a profile that has cadences and is not 0 is 1
 other-profile : (profile n : ℕ) → admits profile n ≡ true → eqb profile 0 ≡ false → eqb profile 1 ≡ true
@@ -148,22 +132,38 @@ other-profile profile n ok z = go (eqb profile 1) refl
     go true e = refl
     go false e = absurd (false≢true (sym z ∙ both (eqb profile 0) _ (sym (no (eqb profile 1) _ _ e) ∙ ok) .0))
 
-module _ (b : Board) (t : Settings) (f : frequencyFits (t .frequency) ≡ true) (p : List ℕ) (tick : ℕ) (x : Taken) where
-  pub packet-fit : judgePacket b t p tick ≡ Takes x → Fit b x
-  unfolding judgeArrived judgeMip
-  packet-fit e =
-      let e₁ = unrefused (arrivalRefusal (b .profile) p tick) _ x e in
-      let e₂ = must-be (eqb (errorIndicator p) 0) _ _ (Takes x) (counts-apart 4 x) e₁ in
-      let e₃ = must-be (carries (b .profile) p) _ _ (Takes x) (counts-apart 0 x) (e₂ .1) in
-      let e₄ = unignored (sectionRefusal p) _ x (e₃ .1) in
-      field-fit b p (settingsOf (addressingField p) (b .site) t) x
-      (settings-both InBits bits-kept (addressingField p) (b .site) t t f) (e₄ .1)
+module _ (b : Board) where
+  limited-fit : (x : Taken) → frequencyFits (x .settings .frequency) ≡ true → (Limits b x → indexFits (b .profile) (x .index) ≡ true)
+      → IfTaken (Fit b) (limited b x)
+  unfolding limited
+  limited-fit x f i =
+      if-unignored (Fit b) (takenRefusal b x) (Takes x)
+      (λ e. let l = limits-kept b x e in record { limits = l; frequency = f; index = i l })
 
-  pub numbers-fit : admits (b .profile) (b .n) ≡ true → (y : Numbers) → judgeNumbers b t p tick y ≡ Takes x → Fit b x
-  unfolding judgeGiven limited indexFits
-  numbers-fit ok y e =
-      let e₁ = unrefused (arrivalRefusal (b .profile) p tick) _ x e in
-      let e₂ = must-not (eqb (b .profile) 0) _ _ (Takes x) (refuses-apart 20 x) e₁ in
-      let e₃ = must-be (eqb (errorIndicator p) 0) _ _ (Takes x) (counts-apart 4 x) (e₂ .1) in
-      let l = limits-kept b (numbersTaken t y) (unignored (takenRefusal b (numbersTaken t y)) _ x (e₃ .1) .0) in
-      limited-fit b (numbersTaken t y) x f (rw (other-profile (b .profile) (b .n) ok (e₂ .0)) (l .index)) (e₃ .1)
+  field-fit : (p : List ℕ) (r : Reply Settings) → Both InBits r r → IfTaken (Fit b) (judgeField b p r)
+  unfolding indexFits
+  field-fit p (refused k) h = tt
+  field-fit p (given t) h = limited-fit (mipTaken p t) h (λ l. refl)
+
+  module _ (t : Settings) (f : frequencyFits (t .frequency) ≡ true) (p : List ℕ) (tick : ℕ) where
+    pub packet-fit : IfTaken (Fit b) (judgePacket b t p tick)
+    unfolding judgeArrived judgeMip
+    packet-fit =
+        if-unrefused (Fit b) (arrivalRefusal (b .profile) p tick) _
+        (pick (IfTaken (Fit b)) (eqb (errorIndicator p) 0) _ _
+        (pick (IfTaken (Fit b)) (carries (b .profile) p) _ _
+        (if-unignored (Fit b) (sectionRefusal p) _
+        (λ e. field-fit p (settingsOf (addressingField p) (b .site) t) (settings-both InBits bits-kept (addressingField p) (b .site) t t f)))
+        tt)
+        tt)
+
+    pub numbers-fit : admits (b .profile) (b .n) ≡ true → (x : Numbers) → IfTaken (Fit b) (judgeNumbers b t p tick x)
+    unfolding judgeGiven indexFits
+    numbers-fit ok x =
+        if-unrefused (Fit b) (arrivalRefusal (b .profile) p tick) _
+        (split (IfTaken (Fit b)) (eqb (b .profile) 0) _ _
+        (λ z. tt)
+        (λ z.
+        pick (IfTaken (Fit b)) (eqb (errorIndicator p) 0) _ _
+        (limited-fit (numbersTaken t x) f (λ l. rw (other-profile (b .profile) (b .n) ok z) (l .index)))
+        tt))

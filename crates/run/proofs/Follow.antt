@@ -1,7 +1,7 @@
 -- A slave follows the book, for any cadence of n packets: its own count is the place that it takes the next packet for, the number untold
 -- is how far that is behind, and a pending notice is the adapter's for the next mark of that count.
 use mathlib.Core.Path.{_≡_, refl, sym, ap, _∙_, subst}
-use mathlib.Core.Bool.{Bool, true, false, cond, not, _&&_, false≢true}
+use mathlib.Core.Bool.{Bool, true, false, cond, not, false≢true}
 use mathlib.Core.Option.{some}
 use Prim.Native.Nat.{ℕ, suc, _+_, _*_, _-_, _/_, _%_, _≤_, _<_}
 use native.Mathlib.Nat.{mod-lt, mod-add-mod, div-add-mod'}

@@ -5,7 +5,7 @@ use mathlib.Core.List.{List, [], _∷_}
 use mathlib.Core.Option.{Option}
 use Prim.Native.Nat.{ℕ}
 use native.Mathlib.Omega.{arith}
-use Rattle.wire.specs.Reply.{Reply, given}
+use Rattle.wire.specs.Reply.{given}
 use Rattle.wire.proofs.Tests.{yes}
 use Rattle.times.specs.Release.{Times, released}
 use Rattle.state.specs.Profile.{second, settingsKept}

@@ -1,6 +1,6 @@
 -- Demand 3 for the steps of a slave and any cadence of n packets: a hunting slave that is handed call after call follows the book.
 -- That counted places rise is not needed: u is signed.
-use mathlib.Core.Path.{_≡_, refl, ap, _∙_, subst}
+use mathlib.Core.Path.{_≡_, refl, subst}
 use mathlib.Core.List.{List, [], _∷_, _++_}
 use Prim.Native.Nat.{ℕ, _<_}
 use lib.Dec.{eqb}
@@ -8,7 +8,6 @@ use Rattle.wire.proofs.Tests.{pick}
 use Rattle.state.specs.Slave.{hunting}
 use Rattle.state.specs.declared.Board.{Board}
 use Rattle.state.specs.declared.Slave.{Slave}
-use Rattle.addressing.specs.declared.Settings.{Settings}
 use Rattle.judging.specs.Judgement.{Judgement}
 use Rattle.judging.proofs.Taking.{Alike, refused-alike, counted-alike, taken-alike, packet-alike, numbers-alike}
 use Rattle.slave.specs.Answer.{Report, Result}

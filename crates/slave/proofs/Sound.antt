@@ -1,6 +1,6 @@
 -- What every call on a sound slave keeps: the start's settings and soundness, so that 15 never arises on a slave that a call left.
-use mathlib.Core.Path.{_≡_, refl, sym, ap, _∙_, subst}
-use mathlib.Core.Bool.{Bool, true, false, cond, _&&_, _||_}
+use mathlib.Core.Path.{_≡_, refl, sym, ap, _∙_}
+use mathlib.Core.Bool.{Bool, true, false, cond, _||_}
 use mathlib.Core.List.{List}
 use Prim.Native.Nat.{ℕ, _+_, _%_}
 use native.Mathlib.Nat.{mod-lt}
@@ -9,7 +9,7 @@ use lib.Dec.{eqb, ltb, leb}
 use lib.IntN.{ℤ}
 use borrow.Author.Tests.{eqb-true, lt-ltb}
 use Rattle.wire.specs.Reply.{given}
-use Rattle.wire.proofs.Tests.{both, join, either, pick, split, yes, no}
+use Rattle.wire.proofs.Tests.{both, join, either, pick, split, yes}
 use Rattle.cadence.specs.Label.{labelOf}
 use Rattle.cadence.specs.MobileFrame.{frameMarks}
 use Rattle.state.specs.Slave.{unknown, nothing}
@@ -22,10 +22,10 @@ use Rattle.judging.specs.Judge.{judgePacket, judgeNumbers}
 use Rattle.judging.specs.Judgement.{Judgement, Refuse, Counts, Takes}
 use Rattle.judging.specs.declared.Numbers.{Numbers}
 use Rattle.judging.specs.declared.Taken.{Taken}
-use Rattle.judging.proofs.Taking.{Fit, packet-fit, numbers-fit}
+use Rattle.judging.proofs.Taking.{IfTaken, Fit, packet-fit, numbers-fit}
 use Rattle.slave.specs.Answer.{Report, Result, left}
-use Rattle.slave.specs.Step.{raised, indexAt, keptAt, passed, unheard, noticeBy, counted, agrees, indexBefore, took, stepOf}
-use Rattle.slave.specs.Gap.{toMark, marksIn, keptOver, gapped}
+use Rattle.slave.specs.Step.{raised, indexAt, passed, unheard, noticeBy, counted, agrees, took, stepOf}
+use Rattle.slave.specs.Gap.{toMark, marksIn, gapped}
 use Rattle.slave.specs.Calls.{packetOf, numbersOf, gapOf}
 
 -- ---- the start's settings stay
@@ -98,12 +98,12 @@ module _ (s : Slave) (ok : sound s ≡ true) where
       })
 
   -- a judged packet, if what was taken kept the limits
-  pub step-sound : (j : Judgement) (tick : ℕ) → ((t : Taken) → j ≡ Takes t → Fit (s .board) t) → sound (stepOf s j tick .slave) ≡ true
+  pub step-sound : (j : Judgement) (tick : ℕ) → IfTaken (Fit (s .board)) j → sound (stepOf s j tick .slave) ≡ true
   unfolding stepOf counted unheard
   step-sound (Refuse k) tick f = ok
   step-sound (Counts k) tick f =
       split (λ (r : Result Report). sound (r .slave) ≡ true) (eqb (s .count .phase) 2) _ _ (λ e. passed-sound (eqb-true _ _ e) k tick) (λ e. ok)
-  step-sound (Takes t) tick f = took-sound t tick (f t refl)
+  step-sound (Takes t) tick f = took-sound t tick f
 
   pub gapped-sound : (k : ℕ) → sound (gapped s k) ≡ true
   unfolding gapped
@@ -136,12 +136,13 @@ module _ (s : Slave) (ok : sound s ≡ true) where
   pub packet-sound : (p : List ℕ) (tick : ℕ) → sound (packetOf s p tick .slave) ≡ true
   packet-sound p tick =
       ap (λ (r : Result Report). sound (r .slave)) (packet-is-step p tick)
-      ∙ step-sound _ tick (packet-fit (s .board) (s .settings) (fitting s ok .frequency) p tick)
+      ∙ step-sound (judgePacket (s .board) (s .settings) p tick) tick (packet-fit (s .board) (s .settings) (fitting s ok .frequency) p tick)
 
   pub numbers-sound : (p : List ℕ) (tick : ℕ) (x : Numbers) → sound (numbersOf s p tick x .slave) ≡ true
   numbers-sound p tick x =
       ap (λ (r : Result Report). sound (r .slave)) (numbers-is-step p tick x)
-      ∙ step-sound _ tick (λ t. numbers-fit (s .board) (s .settings) (fitting s ok .frequency) p tick t (admitted (s .board) (settings-kept s ok)) x)
+      ∙ step-sound (judgeNumbers (s .board) (s .settings) p tick x) tick
+      (numbers-fit (s .board) (s .settings) (fitting s ok .frequency) p tick (admitted (s .board) (settings-kept s ok)) x)
 
   pub gap-sound : (k : ℕ) → sound (gapOf s k .slave) ≡ true
   gap-sound k = ap (λ (r : Result (Unit {0})). sound (r .slave)) (gap-is-step k) ∙ gapped-sound k
