@@ -1,5 +1,4 @@
 -- `writer::head_of` meets its contract.
--- Assumes nothing.
 use borrow.Author.Needs.{needs}
 use mathlib.Core.Path.{_≡_, sym, ap, _∙_}
 use Rattle.wire.specs.BigEndian.{byte0, byte1}
