@@ -1,12 +1,12 @@
 -- The first bytes of a list, one by one, and the fields that they spell: a packet's head is what the writer makes of its notice.
-use mathlib.Core.Path.{_≡_, refl, sym, ap, ap₂, _∙_, subst}
+use mathlib.Core.Path.{_≡_, refl, sym, ap, _∙_}
 use mathlib.Core.Bool.{Bool, true, false, cond}
-use mathlib.Core.List.{List, [], _∷_, _++_}
-use Prim.Native.Nat.{ℕ, zero, suc, _+_, _-_, _*_, _/_, _%_, _≤_, _<_, _^_}
+use mathlib.Core.List.{List, [], _∷_}
+use Prim.Native.Nat.{ℕ, _+_, _-_, _%_, _<_}
 use native.Mathlib.Omega.{arith}
 use lib.Dec.{leb}
-use lib.ListN.{length, take, drop, getD}
-use borrow.Author.Tests.{leb-true, leb-false, le-leb, lt-leb}
+use lib.ListN.{getD}
+use borrow.Author.Tests.{leb-true, leb-false}
 use Rattle.wire.specs.BigEndian.{be16, be16At, byte0, byte1}
 use Rattle.wire.proofs.Numbers.{of16, of24, of32}
 use Rattle.wire.proofs.Bytes.{Bytes, elements}

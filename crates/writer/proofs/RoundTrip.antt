@@ -6,15 +6,15 @@
 --     one-bit-refused     an accepted packet with one bit of its bytes 0 to 24 + a flipped is refused
 use mathlib.Core.Path.{_≡_, refl, sym, ap, ap₂, _∙_, subst}
 use mathlib.Core.Bool.{Bool, true, false, cond}
-use mathlib.Core.List.{List, [], _∷_, _++_, append-assoc}
-use Prim.Native.Nat.{ℕ, zero, suc, _+_, _-_, _*_, _/_, _%_, _≤_, _<_, _^_}
+use mathlib.Core.List.{List, _++_, append-assoc}
+use Prim.Native.Nat.{ℕ, zero, suc, _+_, _-_, _%_, _≤_, _<_, _^_}
 use native.Mathlib.Decide.{ℕ-discrete}
 use native.Mathlib.Omega.{arith}
 use lib.Bits.{bitXor}
-use lib.Dec.{leb, ltb}
-use lib.ListN.{length, take, drop, getD, set, length-append, length-drop, length-set, take-append-drop}
-use lib.Seq.{take-at, take-add, take-append-le, length-take-le, getD-take, getD-set-same, getD-set-other, take-set-lt}
-use borrow.Author.Tests.{leb-true, le-leb, lt-leb, ltb-true}
+use lib.Dec.{leb}
+use lib.ListN.{length, take, drop, getD, set, length-append, length-drop, take-append-drop}
+use lib.Seq.{take-at, take-add, length-take-le, getD-take, getD-set-same, getD-set-other, take-set-lt}
+use borrow.Author.Tests.{le-leb, lt-leb, ltb-true}
 use Rattle.wire.specs.Reply.{refused, given, reply, Output}
 use Rattle.wire.specs.Standards.{packetLength, longestAddressing, dvbSecond}
 use Rattle.wire.specs.BigEndian.{be16, byte0, byte1, bytes32}
@@ -29,10 +29,10 @@ use Rattle.addressing.specs.Entries.{wellFormed}
 use Rattle.notice.specs.Mip.{individualAddressingLength, addressingField, throughCheck, noticeIn}
 use Rattle.writer.specs.Writable.{Writable}
 use Rattle.notice.specs.Reader.{readRefusal, readOf}
-use Rattle.writer.specs.Writer.{writeRefusal, flagsOf, headOf, fieldsOf, stuffing, packetOf, writeOf}
+use Rattle.writer.specs.Writer.{writeRefusal, headOf, fieldsOf, stuffing, packetOf, writeOf}
 use Rattle.notice.specs.declared.Notice.{Notice}
-use Rattle.notice.proofs.Sound.{Sound, accepted-sound, sound-accepted, sound-reads, reads-sound}
-use Rattle.writer.proofs.Writing.{head-length, fields-length, length-stuffing, judged, write-fits, write-none}
+use Rattle.notice.proofs.Sound.{Sound, accepted-sound, sound-reads, reads-sound}
+use Rattle.writer.proofs.Writing.{fields-length, length-stuffing, judged, write-fits, write-none}
 use Rattle.writer.proofs.Front.{head-again}
 
 -- ---- written, then read
