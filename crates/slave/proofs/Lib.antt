@@ -3,3 +3,5 @@ pub mod Releasing
 pub mod Stepping
 pub mod Calling
 pub mod Passing
+pub mod Sound
+pub mod Due
