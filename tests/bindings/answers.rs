@@ -84,15 +84,15 @@ impl From<(Slave, Result<slave::Reply, u8>)> for Step {
             NoticePart::Slip => (2, 0),
             NoticePart::Ignored(number) => (3, number),
         };
-        let (kind, times) = match mark {
-            MarkPart::None => (0, Times::default()),
-            MarkPart::Untimed => (1, Times::default()),
-            MarkPart::Late => (2, Times::default()),
-            MarkPart::Released(times) => (3 + slave.profile, times.into()),
+        let (kind, number, times) = match mark {
+            MarkPart::None => (0, 0, Times::default()),
+            MarkPart::Untimed => (1, 0, Times::default()),
+            MarkPart::Late => (2, 14, Times::default()),
+            MarkPart::Released(times) => (3 + slave.profile, 0, times.into()),
         };
         let (has_label, has_place) = (label.is_some(), place.is_some());
         let (label, place) = (label.unwrap_or(0), place.unwrap_or(0));
-        Step { slave, reply: Reply { number: 0, has_label, label, notice, ignored, turn, has_place, place, mark: Mark { kind, times } } }
+        Step { slave, reply: Reply { number: 0, has_label, label, notice, ignored, turn, has_place, place, mark: Mark { kind, number, times } } }
     }
 }
 

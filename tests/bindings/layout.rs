@@ -8,13 +8,17 @@ mod bindings;
 #[path = "../other/mod.rs"]
 mod other;
 
-use bindings::slave::CSlave;
-use bindings::vikombare::{CChange, CNotice, CReading, CStep, Mark, Periods, Reply, Steps, Tick, Times};
+use bindings::slave::{CBoard, CCount, CSettings, CSlave, CWaiting};
+use bindings::vikombare::{CChange, CNotice, CNumbers, CReading, CStep, Mark, Periods, Reply, Steps, Tick, Times};
 
 fn main() {
     Steps::layout("steps");
     Periods::layout("periods");
     Tick::layout("tick");
+    CBoard::layout("board");
+    CSettings::layout("settings");
+    CCount::layout("count");
+    CWaiting::layout("waiting");
     CSlave::layout("slave");
     CChange::layout("change");
     Times::layout("dvb_times");
@@ -22,6 +26,7 @@ fn main() {
     Mark::layout("mark");
     Reply::layout("reply");
     CStep::layout("step");
+    CNumbers::layout("numbers_notice");
     CNotice::layout("notice");
     CReading::layout("reading");
 }

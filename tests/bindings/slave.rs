@@ -3,33 +3,48 @@
 use crate::other::slave::Slave;
 
 c_struct! {
-    CSlave {
-        phase: u8,
-        profile: u8,
-        n: u16,
-        site: u16,
-        tad: u32,
-        od: i16,
-        frequency: i32,
-        power: u16,
-        next: u16,
-        pending: u8,
-        index: u8,
-        sts: u32,
-        md: u32,
-    }
+    /// The settings of a start.
+    CBoard { profile: u8, n: u16, site: u16, tad: u32, }
+}
+
+c_struct! {
+    /// The settings in force.
+    CSettings { od: i16, frequency: i32, power: u16, }
+}
+
+c_struct! {
+    /// Where the slave stands in its cadence.
+    CCount { phase: u8, next: u16, index: u8, }
+}
+
+c_struct! {
+    /// The notice that waits for its mark.
+    CWaiting { pending: u8, sts: u32, md: u32, }
+}
+
+c_struct! {
+    CSlave { board: CBoard, settings: CSettings, count: CCount, waiting: CWaiting, }
 }
 
 impl From<Slave> for CSlave {
     fn from(s: Slave) -> CSlave {
         let Slave { phase, profile, n, site, tad, od, frequency, power, next, pending, index, sts, md } = s;
-        CSlave { phase, profile, n, site, tad, od, frequency, power, next, pending, index, sts, md }
+        CSlave {
+            board: CBoard { profile, n, site, tad },
+            settings: CSettings { od, frequency, power },
+            count: CCount { phase, next, index },
+            waiting: CWaiting { pending, sts, md },
+        }
     }
 }
 
 impl From<CSlave> for Slave {
     fn from(s: CSlave) -> Slave {
-        let CSlave { phase, profile, n, site, tad, od, frequency, power, next, pending, index, sts, md } = s;
+        let CSlave { board, settings, count, waiting } = s;
+        let CBoard { profile, n, site, tad } = board;
+        let CSettings { od, frequency, power } = settings;
+        let CCount { phase, next, index } = count;
+        let CWaiting { pending, sts, md } = waiting;
         Slave { phase, profile, n, site, tad, od, frequency, power, next, pending, index, sts, md }
     }
 }

@@ -33,6 +33,8 @@ c_struct! {
     Mark {
         /// 0 none, 1 untimed, 2 late, 3 released in profile 0, 4 released in profile 1.
         kind: u8,
+        /// 14 where it is late, else 0.
+        number: u8,
         times as dvb a110: Times,
     }
 }
@@ -61,6 +63,11 @@ c_struct! {
 }
 
 c_struct! {
+    /// What a numbers notice carries.
+    CNumbers { pointer: u16, sts: Periods, md: Periods, od: i16, index: u8, }
+}
+
+c_struct! {
     CNotice { continuity: u8, pointer: u16, periodic: bool, reserved: u16, sts: Steps, md: Steps, tps: u32, }
 }
 
@@ -79,11 +86,7 @@ extern "C" {
         packet: *const u8,
         length: usize,
         arrival: Periods,
-        pointer: u16,
-        sts: Periods,
-        md: Periods,
-        od: i16,
-        index: u8,
+        notice: CNumbers,
     ) -> CStep;
     fn vikombare_gap(slave: CSlave, k: u16) -> CChange;
     fn vikombare_save(slave: CSlave, out: *mut u8, length: usize) -> u8;
@@ -112,7 +115,8 @@ pub fn packet(slave: &mut CSlave, p: &[u8], profile: u8, count: u32) -> Reply {
 #[inline(always)]
 pub fn numbers(slave: CSlave, p: &[u8], tick: u32, m: &Numbers) -> CStep {
     let [arrival, sts, md] = [tick, m.sts, m.md].map(|periods| Periods { periods });
-    unsafe { vikombare_numbers(slave, p.as_ptr(), p.len(), arrival, m.pointer, sts, md, m.od, m.index) }
+    let notice = CNumbers { pointer: m.pointer, sts, md, od: m.od, index: m.index };
+    unsafe { vikombare_numbers(slave, p.as_ptr(), p.len(), arrival, notice) }
 }
 
 #[inline(always)]

@@ -24,6 +24,7 @@ pub enum Reading {
     Refused(u8),
 }
 
+// The fields of table 1, in its order, each as its definition in specs/Mip.antt says; bytes beyond the end read as 0.
 fn sync(p: &[u8]) -> u8
     ensures { λ r. ⌜ r ≡ sync (now (p .entry)) ⌝ }
 {

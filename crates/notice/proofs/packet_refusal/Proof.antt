@@ -6,7 +6,7 @@ use native.Mathlib.Omega.{arith}
 use denote.Ref.{now}
 use borrow.Author.Needs.{needs}
 use lib.ListN.{length}
-use borrow.Author.Tests.{eq-eqb, ne-eqb}
+use borrow.Author.Tests.{ne-eqb}
 use Rattle.wire.specs.Standards.{packetLength, syncByte, mipPid}
 use Rattle.notice.specs.Mip.{sync, errorIndicator, packetIdentifier}
 use Rattle.notice.specs.Reader.{packetRefusal}
@@ -39,7 +39,7 @@ returns-2 : tie.Need-returns-2
 unfolding packetRefusal
 returns-2 c =
     let s = bytes (c .before .before .before .before) in
-    rw (eq-eqb (length s) packetLength (long (c .before .before)), ne-eqb (sync s) syncByte (λ e. c .if2 .taken (c .before .sync .ensures ∙ e)))
+    rw (long (c .before .before), ne-eqb (sync s) syncByte (λ e. c .if2 .taken (c .before .sync .ensures ∙ e)))
 
 error-indicator-requires : tie.Need-error-indicator-requires
 error-indicator-requires c κs = search needs
@@ -47,8 +47,9 @@ error-indicator-requires c κs = search needs
 returns-3 : tie.Need-returns-3
 unfolding packetRefusal
 returns-3 c =
-    let s = bytes (c .before .before .before .before .before .before) in
-    rw (eq-eqb (length s) packetLength (long (c .before .before .before .before)), eq-eqb (sync s) syncByte (begun (c .before .before)), ne-eqb (errorIndicator s) 0 (λ e. c .if3 .taken (c .before .error-indicator .ensures ∙ e)))
+    let l = c .before .before in
+    let s = bytes (l .before .before .before .before) in
+    rw (long (l .before .before), begun l, ne-eqb (errorIndicator s) 0 (λ e. c .if3 .taken (c .before .error-indicator .ensures ∙ e)))
 
 packet-identifier-requires : tie.Need-packet-identifier-requires
 packet-identifier-requires c κs = search needs
@@ -56,14 +57,17 @@ packet-identifier-requires c κs = search needs
 returns-4 : tie.Need-returns-4
 unfolding packetRefusal
 returns-4 c =
-    let s = bytes (c .before .before .before .before .before .before .before .before) in
-    rw (eq-eqb (length s) packetLength (long (c .before .before .before .before .before .before)), eq-eqb (sync s) syncByte (begun (c .before .before .before .before)), eq-eqb (errorIndicator s) 0 (whole (c .before .before)), ne-eqb (packetIdentifier s) mipPid (λ e. c .if4 .taken (c .before .packet-identifier .ensures ∙ e)))
+    let l = c .before .before in
+    let k = l .before .before in
+    let s = bytes (k .before .before .before .before) in
+    rw (long (k .before .before), begun k, whole l, ne-eqb (packetIdentifier s) mipPid (λ e. c .if4 .taken (c .before .packet-identifier .ensures ∙ e)))
 
 returns-5 : tie.Need-returns-5
 unfolding packetRefusal
 returns-5 c =
-    let s = bytes (c .before .before .before .before .before .before .before .before) in
-    rw (eq-eqb (length s) packetLength (long (c .before .before .before .before .before .before)), eq-eqb (sync s) syncByte (begun (c .before .before .before .before)), eq-eqb (errorIndicator s) 0 (whole (c .before .before)), eq-eqb (packetIdentifier s) mipPid (sym (c .before .packet-identifier .ensures) ∙ c .if4 .left))
+    let l = c .before .before in
+    let k = l .before .before in
+    rw (long (k .before .before), begun k, whole l, sym (c .before .packet-identifier .ensures) ∙ c .if4 .left)
 
 pub packet-refusal-spec : {M : Type 1} → statement M
 packet-refusal-spec =
