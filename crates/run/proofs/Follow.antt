@@ -62,24 +62,24 @@ Follows A (opened last u told od) s = Tracks A last u s
 
 -- ---- the pending notice, over the packets that pass
 
-module _ (n : ℕ) (A : Adapter) (place : ℕ) (w : Waiting) where
-  nothing-held : (p : ℕ) → IfPending n A p nothing
-  nothing-held p e = absurd (false≢true e)
+nothing-held : (n : ℕ) (A : Adapter) (place : ℕ) → IfPending n A place nothing
+nothing-held n A place e = absurd (false≢true e)
 
-  -- k packets on, before the next mark
-  held-on : (k : ℕ) → ((cadence : ℕ) → cadence * n < place → place ≤ suc cadence * n → place + k ≤ suc cadence * n)
-      → IfPending n A place w → IfPending n A (place + k) w
-  held-on k on f e =
-      let h = f e in
-      record {
-        cadence = h .cadence;
-        notice = h .notice;
-        written = h .written;
-        sts = h .sts;
-        md = h .md;
-        after = omega (arith, h .after);
-        till = on (h .cadence) (h .after) (h .till);
-      }
+-- k packets on, before the next mark
+held-on : (n : ℕ) (A : Adapter) (place k : ℕ) (w : Waiting)
+    → ((cadence : ℕ) → cadence * n < place → place ≤ suc cadence * n → place + k ≤ suc cadence * n)
+    → IfPending n A place w → IfPending n A (place + k) w
+held-on n A place k w on f e =
+    let h = f e in
+    record {
+      cadence = h .cadence;
+      notice = h .notice;
+      written = h .written;
+      sts = h .sts;
+      md = h .md;
+      after = omega (arith, h .after);
+      till = on (h .cadence) (h .after) (h .till);
+    }
 
 module _ (A : Adapter) (s : Slave) (some-n : 0 < s .board .n) where
   abbrev n : ℕ
@@ -128,8 +128,8 @@ module _ (A : Adapter) (s : Slave) (some-n : 0 < s .board .n) where
         next = ap (nextLabel n) (f .next) ∙ mod-add-mod (f .place) n 1;
         held =
             split (IfPending n A (f .place + 1)) (eqb (s .count .next) 0) nothing (s .waiting)
-            (λ z. nothing-held n A (f .place) (s .waiting) (f .place + 1))
-            (λ z. held-on n A (f .place) (s .waiting) 1 (λ c a b. short n (f .place) c some-n a b (λ m. eqb-false _ _ z (f .next ∙ m))) (f .held));
+            (λ z. nothing-held n A (f .place + 1))
+            (λ z. held-on n A (f .place) 1 (s .waiting) (λ c a b. short n (f .place) c some-n a b (λ m. eqb-false _ _ z (f .next ∙ m))) (f .held));
       },
     )
 
@@ -147,8 +147,8 @@ module _ (A : Adapter) (s : Slave) (some-n : 0 < s .board .n) where
             split (IfPending n A (f .place + k)) (leb k (toMark n (s .count .next))) (s .waiting) nothing
             (λ z.
             let room : k ≤ toMark n (f .place % n) = subst (λ (l : ℕ). k ≤ toMark n l) (f .next) (leb-true _ _ z) in
-            held-on n A (f .place) (s .waiting) k (λ c a b. stays n (f .place) c some-n a b k room) (f .held))
-            (λ z. nothing-held n A (f .place) (s .waiting) (f .place + k));
+            held-on n A (f .place) k (s .waiting) (λ c a b. stays n (f .place) c some-n a b k room) (f .held))
+            (λ z. nothing-held n A (f .place + k));
       })
 
   -- ---- a notice taken at the place t
