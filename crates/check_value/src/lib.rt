@@ -13,7 +13,7 @@ fn word_at(s: &[u8], i: usize) -> u32
     requires { ⌜ i + 4 ≤ length (now s) ⌝ }
     ensures { λ r. ⌜ r ≡ be32At (now (s .entry)) i ⌝ }
 {
-    wire::number32(s[i], s[i + 1], s[i + 2], s[i + 3])
+    wire::number32_at(s, i)
 }
 
 // What nibble p of w, counted from the lowest, leaves once m + p nibbles of zero have followed it.
@@ -84,11 +84,6 @@ pub fn seal(out: &mut [u8], end: usize)
         return;
     }
     let sum = register_of(&out[..end]);
-    let check = [
-        wire::fourth_byte(sum),
-        wire::third_byte(sum),
-        wire::second_byte(sum),
-        wire::low_byte(sum),
-    ];
+    let check = wire::bytes_32(sum);
     wire::put(out, end, &check);
 }

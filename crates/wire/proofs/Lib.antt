@@ -3,4 +3,5 @@ pub mod Tests
 pub mod Negative
 pub mod Puts
 pub mod Numbers
+pub mod Beyond
 pub mod Bytes

@@ -1,5 +1,4 @@
 -- The bits of the upper half, as the code turns them into a negative number: -1 less their distance from the top. And back.
--- Assumes nothing.
 use mathlib.Core.Path.{_≡_, refl, sym, ap, _∙_, subst}
 use mathlib.Core.Bool.{true, false, false≢true}
 use Prim.Native.Nat.{ℕ, zero, suc, _<_, _^_, _-_}

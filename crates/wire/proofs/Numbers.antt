@@ -1,5 +1,4 @@
 -- A number is the one that its bytes spell, and bytes are those of the number that they spell.
--- Assumes nothing.
 use mathlib.Core.Path.{_≡_, refl, ap}
 use mathlib.Core.Bool.{Bool, true, false, cond}
 use Prim.Native.Nat.{ℕ, _+_, _-_, _/_, _%_, _^_, _<_}
@@ -9,7 +8,7 @@ use lib.Pow.{shr-shr}
 use lib.Dec.{ltb}
 use lib.IntN.{ℤ, pos, negsuc}
 use lib.Signed.{mag}
-use borrow.Author.Tests.{lt-ltb, le-ltb, ltb-false}
+use borrow.Author.Tests.{lt-ltb, le-ltb, ltb-true, ltb-false}
 use Rattle.wire.specs.BigEndian.{be16, be24, be32, byte0, byte1, byte2, byte3}
 use Rattle.wire.specs.Signed.{signed, bits}
 
@@ -53,4 +52,12 @@ module _ (half : ℕ) where
     where
       go : (t : Bool) → ltb v half ≡ t → bits (half + half) (cond t (pos v) (negsuc (half + half - 1 - v))) ≡ v
       go true e = refl
+      go false e = omega (arith, ltb-false v half e)
+
+  -- which is as small as its width says
+  pub signed-small : (v : ℕ) → v < half + half → mag (signed half (half + half) v) < half
+  signed-small v h = go (ltb v half) refl
+    where
+      go : (t : Bool) → ltb v half ≡ t → mag (cond t (pos v) (negsuc (half + half - 1 - v))) < half
+      go true e = omega (arith, ltb-true v half e)
       go false e = omega (arith, ltb-false v half e)

@@ -1,5 +1,4 @@
 -- Bytes put over other bytes: what fits, what does not, and pieces put one behind the other.
--- Assumes nothing.
 use mathlib.Core.Path.{_≡_, sym, ap, ap₂, _∙_}
 use mathlib.Core.List.{List, _++_}
 use Prim.Native.Nat.{ℕ, _+_, _≤_, _<_}

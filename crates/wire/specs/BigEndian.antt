@@ -1,5 +1,4 @@
 -- Numbers of 16, 24 and 32 bits as bytes, the most significant first.
--- Assumes nothing.
 use Prim.Native.Nat.{ℕ, _+_, _*_, _/_, _%_}
 use mathlib.Core.List.{List, [], _∷_}
 use lib.ListN.{getD}

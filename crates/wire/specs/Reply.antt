@@ -1,7 +1,7 @@
 -- What a call answers: a number of document 01's table "Numbers a call can refuse with", or what the call gives.
--- Assumes nothing.
 use Prim.Native.Nat.{ℕ, zero, suc}
 use mathlib.Core.Bool.{Bool, true, false}
+use mathlib.Core.List.{List}
 
 pub data Reply (A : Type 0) : Type 0 where
   refused : ℕ → Reply A
@@ -31,3 +31,12 @@ numberOf (given a) = 0
 abbrev pub keptBy : {A : Type 0} → ℕ → A → A → A
 keptBy zero old new = new
 keptBy (suc n) old new = old
+
+-- what a call that fills a lent buffer leaves: its reply, and the bytes of the buffer
+pub record Output : Type 0 where
+  pub reply : Reply (Unit {0})
+  pub bytes : List ℕ
+
+-- a number refuses and keeps the old bytes, 0 lets the new ones stand
+abbrev pub filled : ℕ → List ℕ → List ℕ → Output
+filled n old new = record { reply = reply n tt; bytes = keptBy n old new }

@@ -1,5 +1,4 @@
 -- Two's complement of 16, 24 and 32 bits (tcimsbf in TS 101 191).
--- Assumes nothing.
 use Prim.Native.Nat.{ℕ, _-_}
 use mathlib.Core.Bool.{cond}
 use lib.Dec.{ltb}

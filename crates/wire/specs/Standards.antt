@@ -1,5 +1,4 @@
 -- The numbers that the standards fix, each named once.
--- Assumes nothing.
 use Prim.Native.Nat.{ℕ}
 
 -- a transport packet's bytes, and its first (ISO/IEC 13818-1)
@@ -13,7 +12,18 @@ syncByte = 0x47
 abbrev pub mipPid : ℕ
 mipPid = 0x15
 
--- the section counts 19 bytes beside the addressing field, and at most 182 in all (clause 6)
+-- the addressing field's first byte, and the bytes that section_length counts beside the field (table 1)
+abbrev pub addressingStart : ℕ
+addressingStart = 21
+
+abbrev pub sectionBeside : ℕ
+sectionBeside = 19
+
+-- crc_32's bytes (table 1)
+abbrev pub checkLength : ℕ
+checkLength = 4
+
+-- the section counts at most 182 bytes in all (clause 6)
 abbrev pub longestAddressing : ℕ
 longestAddressing = 163
 

@@ -1,56 +1,62 @@
 // Big-endian numbers, two's complement, and bytes put into a lent buffer: what every format here is made of.
 ghost use mathlib.Core.Path.{_≡_};
-ghost use Rattle.wire.specs.BigEndian.{be16, be24, be32, byte0, byte1, byte2, byte3, bytes16, bytes32};
-ghost use Rattle.wire.specs.Signed.{signed16, signed24, signed32, bits16, bits32};
+ghost use Prim.Native.Nat.{_+_, _≤_};
+ghost use lib.ListN.{getD};
+ghost use Rattle.wire.specs.BigEndian.{be16At, be24At, be32At, byte0, bytes16, bytes24, bytes32};
+ghost use Rattle.wire.specs.Signed.{signed, signed16, signed24, signed32, bits16, bits32};
 ghost use Rattle.wire.specs.Put.{putAt};
 
-// The number that two bytes spell.
-pub fn number16(a: u8, b: u8) -> u16
-    ensures { λ r. ⌜ r ≡ be16 a b ⌝ }
+// Byte i of b. Here and in the numbers below, bytes beyond the end read as 0.
+pub fn byte_at(b: &[u8], i: usize) -> u8
+    ensures { λ r. ⌜ r ≡ getD (now (b .entry)) i 0 ⌝ }
 {
-    (a as u16) * 256 + (b as u16)
+    if b.len() <= i {
+        return 0;
+    }
+    b[i]
+}
+
+// The number that two bytes spell, the first of them byte i.
+pub fn number16_at(b: &[u8], i: usize) -> u16
+    ensures { λ r. ⌜ r ≡ be16At (now (b .entry)) i ⌝ }
+{
+    if b.len() <= i {
+        return 0;
+    }
+    let high = byte_at(b, i);
+    let low = byte_at(b, i + 1);
+    (high as u16) * 256 + (low as u16)
 }
 
 // The number that three bytes spell.
-pub fn number24(a: u8, b: u8, c: u8) -> u32
-    ensures { λ r. ⌜ r ≡ be24 a b c ⌝ }
+pub fn number24_at(b: &[u8], i: usize) -> u32
+    ensures { λ r. ⌜ r ≡ be24At (now (b .entry)) i ⌝ }
 {
-    (a as u32) * 65536 + (b as u32) * 256 + (c as u32)
+    if b.len() <= i {
+        return 0;
+    }
+    let high = byte_at(b, i);
+    let low = number16_at(b, i + 1);
+    (high as u32) * 65536 + (low as u32)
 }
 
 // The number that four bytes spell.
-pub fn number32(a: u8, b: u8, c: u8, d: u8) -> u32
-    ensures { λ r. ⌜ r ≡ be32 a b c d ⌝ }
+pub fn number32_at(b: &[u8], i: usize) -> u32
+    ensures { λ r. ⌜ r ≡ be32At (now (b .entry)) i ⌝ }
 {
-    (a as u32) * 16777216 + (b as u32) * 65536 + (c as u32) * 256 + (d as u32)
+    if b.len() <= i {
+        return 0;
+    }
+    let high = byte_at(b, i);
+    let low = number24_at(b, i + 1);
+    (high as u32) * 16777216 + low
 }
 
-// Byte 0 of a number, its least significant.
-pub fn low_byte(w: u32) -> u8
+// The lowest byte of a number.
+fn low_byte(w: u32) -> u8
     ensures { λ r. ⌜ r ≡ byte0 w ⌝ }
 {
     (w % 256) as u8
-}
-
-// Byte 1 of a number.
-pub fn second_byte(w: u32) -> u8
-    ensures { λ r. ⌜ r ≡ byte1 w ⌝ }
-{
-    (w / 256 % 256) as u8
-}
-
-// Byte 2 of a number.
-pub fn third_byte(w: u32) -> u8
-    ensures { λ r. ⌜ r ≡ byte2 w ⌝ }
-{
-    (w / 65536 % 256) as u8
-}
-
-// Byte 3 of a number.
-pub fn fourth_byte(w: u32) -> u8
-    ensures { λ r. ⌜ r ≡ byte3 w ⌝ }
-{
-    (w / 16777216 % 256) as u8
 }
 
 // The bytes of a number of 16 bits.
@@ -58,48 +64,62 @@ pub fn bytes_16(w: u16) -> [u8; 2]
     ensures { λ r. ⌜ r ≡ bytes16 w ⌝ }
 {
     let v = w as u32;
-    [second_byte(v), low_byte(v)]
+    [low_byte(v / 256), low_byte(v)]
+}
+
+// The lowest 24 bits of a number as bytes.
+pub fn bytes_24(w: u32) -> [u8; 3]
+    ensures { λ r. ⌜ r ≡ bytes24 w ⌝ }
+{
+    [low_byte(w / 65536), low_byte(w / 256), low_byte(w)]
 }
 
 // The bytes of a number of 32 bits.
 pub fn bytes_32(w: u32) -> [u8; 4]
     ensures { λ r. ⌜ r ≡ bytes32 w ⌝ }
 {
-    [fourth_byte(w), third_byte(w), second_byte(w), low_byte(w)]
+    [
+        low_byte(w / 16777216),
+        low_byte(w / 65536),
+        low_byte(w / 256),
+        low_byte(w),
+    ]
+}
+
+// The signed number that v means in a range up to `top` whose upper half begins at `half`.
+fn twos_complement(half: u32, top: u32, v: u32) -> i32
+    requires { ⌜ (half ≤ 2147483648) × (top ≤ half + 2147483647) ⌝ }
+    ensures { λ r. ⌜ r ≡ signed half (top + 1) v ⌝ }
+{
+    if v < half {
+        return v as i32;
+    }
+    if top < v {
+        return -1;
+    }
+    let w = top - v;
+    -1 - (w as i32)
 }
 
 // The signed number that 16 bits mean.
 pub fn signed_16(v: u16) -> i16
     ensures { λ r. ⌜ r ≡ signed16 v ⌝ }
 {
-    if v < 32768 {
-        return v as i16;
-    }
-    let w = 65535 - v;
-    -1 - (w as i16)
+    twos_complement(32768, 65535, v as u32) as i16
 }
 
-// The signed number that three bytes mean.
-pub fn signed_24(a: u8, b: u8, c: u8) -> i32
-    ensures { λ r. ⌜ r ≡ signed24 (be24 a b c) ⌝ }
+// The signed number that 24 bits mean; -1 beyond them.
+pub fn signed_24(v: u32) -> i32
+    ensures { λ r. ⌜ r ≡ signed24 v ⌝ }
 {
-    let v = number24(a, b, c);
-    if v < 8388608 {
-        return v as i32;
-    }
-    let w = 16777215 - v;
-    -1 - (w as i32)
+    twos_complement(8388608, 16777215, v)
 }
 
 // The signed number that 32 bits mean.
 pub fn signed_32(v: u32) -> i32
     ensures { λ r. ⌜ r ≡ signed32 v ⌝ }
 {
-    if v < 2147483648 {
-        return v as i32;
-    }
-    let w = 4294967295 - v;
-    -1 - (w as i32)
+    twos_complement(2147483648, 4294967295, v)
 }
 
 // The 16 bits of a signed number.
@@ -122,13 +142,6 @@ pub fn bits_32(z: i32) -> u32
         return 4294967295 - (w as u32);
     }
     z as u32
-}
-
-// A byte as a length or an index.
-pub fn wide(x: u8) -> usize
-    ensures { λ r. ⌜ r ≡ x ⌝ }
-{
-    x as usize
 }
 
 // Puts all of src into dst from byte `at` on; puts nothing where src does not fit.

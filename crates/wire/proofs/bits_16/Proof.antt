@@ -1,5 +1,4 @@
 -- `wire::bits_16` meets its contract.
--- Assumes nothing.
 use mathlib.Core.Path.{ap, _∙_}
 use Prim.Native.Nat.{ℕ, _-_}
 use native.Mathlib.Omega.{arith}

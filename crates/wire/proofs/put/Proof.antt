@@ -1,5 +1,4 @@
 -- `wire::put` meets its contract. The loop's invariant: the first i bytes of src stand in dst from `at` on, and all else is as it was.
--- Assumes nothing.
 use mathlib.Core.Path.{_≡_, refl, sym, ap, _∙_, subst}
 use mathlib.Core.List.{List, _++_}
 use Prim.Native.Nat.{ℕ, _+_, _-_, _≤_, _<_, suc}

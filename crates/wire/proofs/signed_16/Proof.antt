@@ -1,35 +1,40 @@
 -- `wire::signed_16` meets its contract.
--- Assumes nothing.
-use mathlib.Core.Path.{_≡_, sym, _∙_}
-use Prim.Native.Nat.{ℕ, _-_}
+use mathlib.Core.Path.{_≡_, sym, ap, _∙_, subst}
+use Prim.Native.Nat.{ℕ, _<_}
 use native.Mathlib.Omega.{arith}
-use mir.Syntax.{w16}
-use mir.Facts.{toZ-pos, toZ-ofZ}
+use lib.IntN.{ℤ}
+use lib.Signed.{mag}
+use mir.Syntax.{w16, w32}
+use mir.Val.{SFits, toZ, ofZ}
+use mir.Facts.{toZ-ofZ}
 use borrow.Author.Needs.{needs}
-use borrow.Author.Tests.{lt-ltb, le-ltb}
-use Rattle.wire.proofs.Negative.{value, fits}
+use Rattle.wire.specs.Signed.{signed16}
+use Rattle.wire.proofs.Numbers.{signed-small}
 use Rattle.wire.proofs.signed_16.Statement.{statement}
 use Rattle.wire.proofs.signed_16.Tie as tie
 
+module _ (v : ℕ) (z : ℤ) (h : v < 65536) (e : z ≡ signed16 v) where
+  small : mag z < 32768
+  small = subst (λ (x : ℤ). mag x < 32768) (sym e) (signed-small 32768 v h)
+
+  wide : toZ w32 (ofZ w32 z) ≡ z
+  wide = toZ-ofZ (record { sfits = omega (arith, small) })
+
+  narrow : SFits w16 (toZ w32 (ofZ w32 z))
+  narrow = subst (SFits w16) (sym wide) (record { sfits = small })
+
+twos-complement-requires : tie.Need-twos-complement-requires
+twos-complement-requires c κs = search needs
+
 cast-result : tie.Need-cast-result
-cast-result c = search needs
+cast-result c = narrow (c .before .args .v) (c .twos-complement .result) (c .before .fits .v .fits) (c .twos-complement .ensures)
 
 returns : tie.Need-returns
-returns c = toZ-pos w16 (c .if1 .taken) ∙ sym (simp (lt-ltb _ _ (c .if1 .taken)))
-
-sub-w : tie.Need-sub-w
-sub-w c = search needs
-
-cast-result-2 : tie.Need-cast-result-2
-cast-result-2 c = search needs
-
-sub-result : tie.Need-sub-result
-sub-result c = fits w16 (65535 - c .before .args .v) (omega arith)
-
-returns-2 : tie.Need-returns-2
-returns-2 c =
-    let n = 65535 - c .before .args .v in
-    toZ-ofZ (fits w16 n (omega arith)) ∙ value w16 n (omega arith) ∙ sym (simp (le-ltb _ _ (c .if1 .left)))
+returns c =
+    let v = c .before .args .v in
+    let z = c .twos-complement .result in
+    toZ-ofZ (narrow v z (c .before .fits .v .fits) (c .twos-complement .ensures))
+    ∙ wide v z (c .before .fits .v .fits) (c .twos-complement .ensures) ∙ c .twos-complement .ensures
 
 pub signed-16-spec : {M : Type 1} → statement M
-signed-16-spec = tie.close (tie.spec cast-result returns sub-w cast-result-2 sub-result returns-2)
+signed-16-spec = tie.close (tie.spec twos-complement-requires cast-result returns)
