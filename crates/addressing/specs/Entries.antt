@@ -39,10 +39,6 @@ abbrev pub isGiven : {A : Type 0} → Reply A → Bool
 isGiven (refused n) = false
 isGiven (given a) = true
 
--- what no entry has set: OD, frequency and power 0
-abbrev pub noSettings : Settings
-noSettings = record { od = pos 0; frequency = pos 0; power = 0 }
-
 -- the form alone, which depends neither on the site nor on what was set before
 unfoldable pub wellFormed : List ℕ → Bool
 wellFormed s = isGiven (settingsOf s 0 noSettings)
