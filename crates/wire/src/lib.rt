@@ -6,6 +6,21 @@ ghost use Rattle.wire.specs.BigEndian.{be16At, be24At, be32At, byte0, by
 ghost use Rattle.wire.specs.Signed.{signed, signed16, signed24, signed32, bits16, bits32};
 ghost use Rattle.wire.specs.Put.{putAt};
 
+// Numbers that the standards fix: specs/Standards.antt says where.
+pub const PACKET_LENGTH: usize = 188;
+
+pub const SYNC_BYTE: u8 = 0x47;
+
+pub const MIP_PID: u16 = 0x15;
+
+pub const ADDRESSING_START: usize = 21;
+
+pub const SECTION_BESIDE: usize = 19;
+
+pub const CHECK_LENGTH: usize = 4;
+
+pub const LONGEST_ADDRESSING: usize = 163;
+
 // Byte i of b. Here and in the numbers below, bytes beyond the end read as 0.
 pub fn byte_at(b: &[u8], i: usize) -> u8
     ensures { λ r. ⌜ r ≡ getD (now (b .entry)) i 0 ⌝ }
