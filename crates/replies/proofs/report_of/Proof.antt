@@ -1,8 +1,7 @@
--- `replies::count_of` meets its contract.
--- Assumes nothing.
+-- `replies::report_of` meets its contract.
 use borrow.Author.Needs.{needs}
-use Rattle.replies.proofs.count_of.Statement.{statement}
-use Rattle.replies.proofs.count_of.Tie as tie
+use Rattle.replies.proofs.report_of.Statement.{statement}
+use Rattle.replies.proofs.report_of.Tie as tie
 
 is-just-requires : tie.Need-is-just-requires
 is-just-requires c κs = search needs
@@ -40,8 +39,8 @@ returns c =
       place = c .before .value-of2 .ensures i;
     }
 
-pub count-of-spec : {M : Type 1} → statement M
-count-of-spec =
+pub report-of-spec : {M : Type 1} → statement M
+report-of-spec =
     tie.close
     (tie.spec
     is-just-requires
