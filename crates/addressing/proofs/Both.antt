@@ -1,7 +1,7 @@
 -- What functions set one by one, an addressing field sets whole: a relation that each function keeps is kept by the field.
 -- So OD depends on no frequency or power before.
 use mathlib.Core.Path.{_≡_, refl}
-use mathlib.Core.Bool.{Bool, true, false, cond}
+use mathlib.Core.Bool.{Bool, true, false}
 use mathlib.Core.List.{List, [], _∷_}
 use Prim.Native.Nat.{ℕ, zero, suc, _-_}
 use lib.ListN.{length, take, drop}

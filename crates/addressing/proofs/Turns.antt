@@ -1,9 +1,8 @@
 -- One turn of the walk over the functions of a loop, and of the walk over the entries of a field, at a place of it.
-use mathlib.Core.Path.{_≡_, refl, sym, ap, ap₂, _∙_}
+use mathlib.Core.Path.{_≡_, refl, sym, ap, _∙_}
 use mathlib.Core.Bool.{Bool, true, false, cond}
-use mathlib.Core.List.{List, [], _∷_}
+use mathlib.Core.List.{List, _∷_}
 use Prim.Native.Nat.{ℕ, zero, suc, _+_, _-_, _≤_, _<_}
-use native.Mathlib.Nat.{le-of-suc-le-suc}
 use native.Mathlib.Omega.{arith}
 use native.Mathlib.Decide.{decLe}
 use lib.ListN.{length, drop, take, getD, length-drop, drop-of-length-le}
@@ -13,8 +12,8 @@ use borrow.Author.Tests.{eqb-true, leb-true, le-leb, lt-leb}
 use Rattle.wire.specs.Reply.{Reply, refused, given}
 use Rattle.addressing.specs.declared.Settings.{Settings}
 use Rattle.wire.specs.BigEndian.{be16At}
-use Rattle.addressing.specs.Functions.{lengthFits, setBy, formed, functionsIn, functionsOf}
-use Rattle.addressing.specs.Entries.{addressed, andThen, entriesIn}
+use Rattle.addressing.specs.Functions.{lengthFits, setBy, functionsIn, functionsOf}
+use Rattle.addressing.specs.Entries.{addressed, entriesIn}
 
 -- every function counts its tag and its length
 cases : (a b c : Bool) (n : ℕ) → cond a (eqb n 4) (cond b (eqb n 5) (cond c (eqb n 4) (leb 2 n))) ≡ true → 2 ≤ n

@@ -1,5 +1,4 @@
 -- Bytes that are sealed: how many they are, and where the check value fits behind them.
--- Assumes nothing.
 use mathlib.Core.Path.{_≡_}
 use mathlib.Core.List.{List, _++_}
 use Prim.Native.Nat.{ℕ, _+_, _≤_, _<_}

@@ -162,3 +162,39 @@ module _ (b : Board) (t : Settings) (p : List ℕ) where
     pub given-limited : errorIndicator p ≡ 0 → judgeGiven b t p x ≡ limited b (numbersTaken t x)
     unfolding judgeGiven
     given-limited e = rw (eq-eqb (errorIndicator p) 0 e)
+
+-- ---- what a notice that is taken has kept
+-- a counted packet takes none
+untaken : {k : ℕ} {x : Taken} {X : Type 0} → Counts k ≡ Takes x → X
+untaken e = let z : _≡_ {A = ℕ} 0 1 = cc in absurd (omega arith)
+
+unignored : (k : ℕ) (j : Judgement) (x : Taken) → unlessIgnored k j ≡ Takes x → (k ≡ 0) × (j ≡ Takes x)
+unignored zero j x e = (refl, e)
+unignored (suc k) j x e = untaken e
+
+chosen : (b : Bool) (i : Judgement) (k : ℕ) (x : Taken) → cond b i (Counts k) ≡ Takes x → i ≡ Takes x
+chosen true i k x e = e
+chosen false i k x e = untaken e
+
+module _ (b : Board) (x : Taken) where
+  pub limited-keeps : (t : Taken) → limited b t ≡ Takes x → (t ≡ x) × Limits b t
+  unfolding limited
+  limited-keeps t e = let u = unignored (takenRefusal b t) (Takes t) x e in (cc, limits-kept b t (u .0))
+
+  limited-limits : (t : Taken) → limited b t ≡ Takes x → Limits b x
+  limited-limits t e = let l = limited-keeps t e in subst (Limits b) (l .0) (l .1)
+
+  field-limits : (p : List ℕ) (r : Reply Settings) → judgeField b p r ≡ Takes x → Limits b x
+  field-limits p (refused k) e = untaken e
+  field-limits p (given t) e = limited-limits (mipTaken p t) e
+
+  module _ (t : Settings) (p : List ℕ) where
+    pub arrived-limits : judgeArrived b t p ≡ Takes x → Limits b x
+    unfolding judgeArrived judgeMip
+    arrived-limits e =
+        let i = chosen (carries (b .profile) p) (judgeMip b t p) 0 x (chosen (eqb (errorIndicator p) 0) _ 4 x e) in
+        field-limits p (settingsOf (addressingField p) (b .site) t) (unignored (sectionRefusal p) _ x i .1)
+
+    pub given-limits : (y : Numbers) → judgeGiven b t p y ≡ Takes x → Limits b x
+    unfolding judgeGiven
+    given-limits y e = limited-limits (numbersTaken t y) (chosen (eqb (errorIndicator p) 0) _ 4 x e)

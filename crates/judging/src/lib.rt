@@ -34,19 +34,17 @@ pub enum Judged {
     Takes(Taken),
 }
 
-const SYNC_BYTE: u8 = 0x47;
-const MIP_PID: u16 = 0x15;
 const UNKNOWN: u8 = 255;
 
 // 1, 2 or 3, or 0 for none.
 pub fn arrival_refusal(profile: u8, p: &[u8], tick: u32) -> u8
     ensures { λ r. ⌜ r ≡ arrivalRefusal profile (now (p .entry)) tick ⌝ }
 {
-    if p.len() != 188 {
+    if p.len() != wire::PACKET_LENGTH {
         return 1;
     }
     let sync = p[0];
-    if sync != SYNC_BYTE {
+    if sync != wire::SYNC_BYTE {
         return 2;
     }
     if !state::in_second(profile, tick) {
@@ -62,7 +60,7 @@ fn carries(profile: u8, p: &[u8]) -> bool
     if profile != 0 {
         return false;
     }
-    notice::packet_identifier(p) == MIP_PID
+    notice::packet_identifier(p) == wire::MIP_PID
 }
 
 // The next mark's index is 0 to 19, or unknown.
@@ -128,9 +126,9 @@ fn mip_taken(p: &[u8], settings: Settings) -> Taken
 fn judge_mip(b: Board, t: Settings, p: &[u8]) -> Judged
     ensures { λ r. ⌜ judgementOf r ≡ judgeMip b t (now (p .entry)) ⌝ }
 {
-    let number = notice::section_refusal(p);
-    if number != 0 {
-        return Judged::Counts(number);
+    let section = notice::section_refusal(p);
+    if section != 0 {
+        return Judged::Counts(section);
     }
     let field = notice::addressing_part(p);
     match addressing::settings_of(field, b.site, t) {

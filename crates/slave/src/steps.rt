@@ -155,7 +155,7 @@ fn mark_taken(s: Slave, label: u16, tick: u32) -> MarkPart
     ensures { λ r. ⌜ markOf r ≡ markTaken s label tick ⌝ }
 {
     let count = s.count;
-    if label != 0 {
+    if 0 < label {
         return MarkPart::Unmarked;
     }
     if agrees(count, label) {

@@ -24,12 +24,12 @@ in-second-requires : tie.Need-in-second-requires
 in-second-requires c κs = search needs
 
 returns-3 : tie.Need-returns-3
-returns-3 c = 
+returns-3 c =
     let a = c .before .before .before .before .before .before .args in
     arrival-3 (a .profile) (now (a .p)) (a .tick) (c .before .before .before .before .if1 .left) (c .before .before .if2 .left) (sym (c .before .in-second .ensures) ∙ not-true _ (c .if3 .taken))
 
 returns-4 : tie.Need-returns-4
-returns-4 c = 
+returns-4 c =
     let a = c .before .before .before .before .before .before .args in
     arrival-none (a .profile) (now (a .p)) (a .tick) (c .before .before .before .before .if1 .left) (c .before .before .if2 .left) (sym (c .before .in-second .ensures) ∙ not-false _ (c .if3 .left))
 

@@ -18,7 +18,7 @@ limited-requires : tie.Need-limited-requires
 limited-requires c κs = search needs
 
 returns-2 : tie.Need-returns-2
-returns-2 c = 
+returns-2 c =
     let a = c .before .before .before .before .before .before .before .before .args in
     let od : toZ w16 (ofZ w16 (a .x .od)) ≡ a .x .od = search (needs, c .before .before .struct-told .given) in
     let f : toZ w32 (ofZ w32 (a .t .frequency)) ≡ a .t .frequency = search (needs, c .before .struct-told2 .given) in

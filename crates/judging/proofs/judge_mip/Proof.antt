@@ -27,7 +27,7 @@ section-refusal-requires : tie.Need-section-refusal-requires
 section-refusal-requires c κs = search needs
 
 returns : tie.Need-returns
-returns c = 
+returns c =
     let r = c .before .section-refusal .ensures in
     ap Counts r ∙ sym (mip-ignored _ _ _ (λ e. c .if1 .taken (r ∙ e)))
 
@@ -50,13 +50,13 @@ enum-told : tie.Need-enum-told
 enum-told c = search needs
 
 returns-2 : tie.Need-returns-2
-returns-2 c = 
+returns-2 c =
     let a = c .before .before .before .before .before .before .before .before .before .before .args in
     c .limited .ensures ∙ ap (limited (a .b)) (c .before .mip-taken .ensures)
     ∙ sym (mip-field (a .b) (a .t) (now (a .p)) (whole (c .before .before .before .before .before .before .before)) _ (walked (c .before .before .before .before .before) ∙ ap walkedReply (c .before .before .before .settings .given .1)))
 
 returns-3 : tie.Need-returns-3
-returns-3 c = 
+returns-3 c =
     let a = c .before .before .before .before .before .before .before .args in
     sym (mip-field (a .b) (a .t) (now (a .p)) (whole (c .before .before .before .before)) _ (walked (c .before .before) ∙ ap walkedReply (c .enum-told .given .1)))
 

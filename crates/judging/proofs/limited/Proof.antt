@@ -10,7 +10,7 @@ taken-refusal-requires : tie.Need-taken-refusal-requires
 taken-refusal-requires c κs = search needs
 
 returns : tie.Need-returns
-returns c = 
+returns c =
     let r = c .before .taken-refusal .ensures in
     ap Counts r ∙ sym (limited-ignores _ _ (λ e. c .if1 .taken (r ∙ e)))
 

@@ -16,7 +16,7 @@ pointer-requires : tie.Need-pointer-requires
 pointer-requires c κs = search needs
 
 returns : tie.Need-returns
-returns c = 
+returns c =
     same-taken (c .pointer .ensures) refl refl (ap (λ (x : Steps). x .0) (c .before .before .synchronization-time-stamp .ensures)) (ap (λ (x : Steps). x .0) (c .before .maximum-delay .ensures))
 
 pub mip-taken-spec : {M : Type 1} → statement M

@@ -1,5 +1,4 @@
 -- `probe::probe_a110_delay_fits` meets its contract.
--- Assumes nothing.
 use borrow.Author.Needs.{needs}
 use mathlib.Core.Path.{ap, _∙_}
 use lib.IntN.{ℤ}

@@ -1,5 +1,4 @@
 -- `probe::probe_settings` meets its contract.
--- Assumes nothing.
 use borrow.Author.Needs.{needs}
 use mathlib.Core.Path.{sym, ap, _∙_}
 use Rattle.addressing.specs.Entries.{walkedReply}
