@@ -7,10 +7,10 @@ use native.Mathlib.Omega.{arith}
 use lib.ListN.{length, take, drop, length-append, length-drop}
 use lib.Seq.{take-at}
 use borrow.Author.Tests.{le-leb, lt-leb}
-use Rattle.wire.specs.Reply.{refused, given, Output}
+use Rattle.wire.specs.Reply.{refused, given}
 use Rattle.wire.specs.BigEndian.{bytes32}
 use Rattle.wire.proofs.Puts.{put-behind}
-use Rattle.check_value.specs.Register.{register, sealed, sealedAt}
+use Rattle.check_value.specs.Register.{register, sealedAt}
 use Rattle.check_value.proofs.Sealing.{seal-fits}
 use Rattle.state.specs.Profile.{settingsKept}
 use Rattle.state.specs.Slave.{cold, hunting}

@@ -5,7 +5,7 @@ use mathlib.Core.List.{List, [], _∷_, _++_, append-assoc, append-nil}
 use Prim.Native.Nat.{ℕ, _+_, _≤_, _<_, _^_}
 use native.Mathlib.Omega.{arith}
 use lib.Dec.{eqb, ltb, leb}
-use lib.ListN.{length, take, drop, getD, length-append, length-take, length-drop}
+use lib.ListN.{length, drop, getD, length-append, length-take, length-drop}
 use lib.Seq.{getD-drop, drop-drop, drop-at}
 use lib.Signed.{mag}
 use borrow.Author.Tests.{eqb-true, ltb-true, leb-true}

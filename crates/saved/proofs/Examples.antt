@@ -3,7 +3,7 @@ use mathlib.Core.Path.{_≡_, refl, ap}
 use mathlib.Core.List.{List, []}
 use Prim.Native.Nat.{ℕ}
 use native.Mathlib.Omega.{arith}
-use lib.IntN.{pos, negsuc}
+use lib.IntN.{negsuc}
 use lib.ListN.{take, replicate}
 use Rattle.wire.specs.Reply.{refused, given}
 use Rattle.check_value.specs.Register.{bitIn, bitsIn, registerFrom, register}

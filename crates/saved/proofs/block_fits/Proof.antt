@@ -10,7 +10,7 @@ use Rattle.wire.specs.BigEndian.{be16At}
 use Rattle.check_value.specs.Register.{register}
 use Rattle.state.specs.Sound.{sound}
 use Rattle.state.specs.declared.Slave.{Slave}
-use Rattle.saved.specs.Block.{trailerSite, shaped, fromBody, held}
+use Rattle.saved.specs.Block.{trailerSite, shaped, fromBody}
 use Rattle.saved.proofs.Fitting.{fits-shape, fits-check, fits-site, fits-sound}
 use Rattle.saved.proofs.block_fits.Statement.{statement}
 use Rattle.saved.proofs.block_fits.Tie as tie

@@ -6,7 +6,7 @@ use denote.Ref.{now}
 use mir.Syntax.{w16, w32}
 use mir.Val.{toZ, ofZ}
 use Rattle.wire.specs.Signed.{bits16, bits32}
-use Rattle.saved.specs.Layout.{byte, pair, word, bodyFields, putAll}
+use Rattle.saved.specs.Layout.{byte, pair, word, bodyFields}
 use Rattle.saved.proofs.Body.{after, with-number, puts-length}
 use Rattle.saved.proofs.put_body.Statement.{statement}
 use Rattle.saved.proofs.put_body.Tie as tie

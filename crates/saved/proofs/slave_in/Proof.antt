@@ -4,8 +4,6 @@ use mathlib.Core.Path.{_≡_, ap, _∙_}
 use mir.Syntax.{w16, w32}
 use mir.Val.{toZ, ofZ}
 use Rattle.saved.specs.Layout.{slaveIn}
-use lib.ListN.{getD}
-use denote.Ref.{now}
 use Rattle.wire.specs.Signed.{signed16, signed32}
 use Rattle.saved.proofs.slave_in.Statement.{statement}
 use Rattle.saved.proofs.slave_in.Tie as tie
