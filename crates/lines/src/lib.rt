@@ -123,10 +123,10 @@ fn records(s: Slave, number: u64, input: &[u8], out: &mut [u8]) -> Piece
     let mut end = 0;
     let mut done = 0;
     while done < whole {
-        let from = used + TICK_LENGTH;
         let to = used + RECORD_LENGTH;
-        let tick = wire::number32_at(input, used);
-        let r = slave::packet(after, &input[from..to], tick);
+        let bytes = &input[used..to];
+        let tick = wire::number32_at(bytes, 0);
+        let r = slave::packet(after, &bytes[TICK_LENGTH..], tick);
         let answer = r.answer;
         end = text::put_line(out, end, next, answer);
         after = r.slave;
