@@ -31,7 +31,7 @@ handled-requires c κs = search needs
 
 loop-holds : tie.Need-loop-holds Inv-loop μ-loop
 unfolding slaveAfter linesOf
-loop-holds c = 
+loop-holds c =
     let a = c .before .before .before .args in
     let e = c .handled .ensures in
     let bytes = handled-bytes (length (now (a .input))) (length (now (a .out))) (a .number) in
@@ -79,7 +79,7 @@ loop-less : tie.Need-loop-less Inv-loop μ-loop
 loop-less c = search needs
 
 loop-again : tie.Need-loop-again Inv-loop μ-loop
-loop-again c = 
+loop-again c =
     let l = c .before .before .before .before .before .before .before .before .before .before .loop in
     let t = placed-puts (c .before .before .before .put-line .ensures) (search needs) (search needs) in (
       handled-more (l .inv .0) (search needs) (c .before .before .before .before .before .before .before .number32-at .ensures) (c .before .before .before .before .before .packet .ensures) t,
