@@ -6,12 +6,12 @@ use Prim.Native.Nat.{ℕ, zero, suc, _+_, _-_, _*_, _/_, _≤_, _<_, min}
 use native.Mathlib.Nat.{min-le-left, min-le-right, min-eq-left, min-eq-right, zero-add}
 use native.Mathlib.Numerals.{add-one}
 use native.Mathlib.Omega.{arith}
-use lib.ListN.{length, take, drop, getD, length-drop}
+use lib.ListN.{length, take, drop, length-drop}
 use lib.Dec.{leb}
-use lib.Seq.{length-take-le, take-length, take-all, drop-drop, getD-take, getD-drop}
+use lib.Seq.{length-take-le, take-length, take-all, drop-drop}
 use borrow.Author.Tests.{eq-eqb, ne-eqb, le-leb, lt-leb, leb-true, leb-false}
 use Rattle.wire.specs.Reply.{refused}
-use Rattle.wire.specs.BigEndian.{be32, be32At}
+use Rattle.wire.specs.BigEndian.{be32At}
 use Rattle.state.specs.Slave.{cold}
 use Rattle.state.specs.declared.Slave.{Slave}
 use Rattle.slave.specs.Answer.{Report, Result, left}
@@ -23,7 +23,6 @@ use Rattle.text.proofs.Putting.{retext, refront, front-then}
 use Rattle.lines.specs.Log.{settingsLength, boardIn, begunBy, tickLength, recordLength, recordOf, firstOf, slaveAfter, linesOf}
 use Rattle.lines.specs.Pieces.{mostRecords, handledIn, Handled, PieceTaken, endingOf}
 use Rattle.lines.specs.declared.Piece.{Piece}
-use Rattle.lines.proofs.Carrying.{drop-take}
 
 -- the settings at the front
 pub begun-short : (h : List ℕ) → length h < settingsLength → left cold (refused 15) ≡ begunBy h
@@ -105,32 +104,18 @@ module _ (bytes room number : ℕ) where
   unfolding handledIn rest
   handled-number = omega (arith, min-le-right (bytes / recordLength) rest, min-le-right (room / lineRoom) (mostRecords - number))
 
--- the packet and the tick of a whole record, where the code reads them
-module _ (i : List ℕ) (at : ℕ) (h : at + recordLength ≤ length i) where
-  whole-there : length (firstOf (drop at i)) ≡ recordLength
-  whole-there = length-take-le recordLength (drop at i) (omega (arith, length-drop at i))
+-- a whole record, as the code takes it out of an input
+abbrev recordFrom : ℕ → List ℕ → List ℕ
+recordFrom at i = take (at + recordLength - at) (drop at i)
 
-  packet-there : take (at + recordLength - (at + tickLength)) (drop (at + tickLength) i) ≡ drop tickLength (firstOf (drop at i))
-  packet-there =
-      let e : at + recordLength - (at + tickLength) ≡ 188 = omega arith in
-      ap₂ (λ (n : ℕ) (l : List ℕ). take n l) e (sym (drop-drop tickLength at i))
-      ∙ sym (drop-take tickLength 188 (drop at i) (omega (arith, length-drop at i)))
-
-  byte-there : (j : ℕ) → j < recordLength → getD i (at + j) 0 ≡ getD (firstOf (drop at i)) j 0
-  byte-there j l = sym (getD-take recordLength (drop at i) j 0 l ∙ getD-drop at i j 0)
-
-  tick-there : be32At i at ≡ be32At (firstOf (drop at i)) 0
-  tick-there =
-      let e : at ≡ at + 0 = omega arith in
-      let first : getD i at 0 ≡ getD (firstOf (drop at i)) 0 0 = ap (λ (n : ℕ). getD i n 0) e ∙ byte-there 0 (omega arith) in
-      λ j. be32 (first j) (byte-there 1 (omega arith) j) (byte-there 2 (omega arith) j) (byte-there 3 (omega arith) j)
-
-  -- a whole record, as the code takes it out of an input
-  pub record-there : (s : Slave) (tick : ℕ) → tick ≡ be32At i at
-      → packetOf s (take (at + recordLength - (at + tickLength)) (drop (at + tickLength) i)) tick ≡ recordOf s (firstOf (drop at i))
-  record-there s tick e =
-      let ticks = e ∙ tick-there in
-      (λ j. packetOf s (packet-there j) (ticks j)) ∙ sym (record-whole s (firstOf (drop at i)) whole-there)
+record-there : (i : List ℕ) (at tick : ℕ) (s : Slave) → at + recordLength ≤ length i → tick ≡ be32At (recordFrom at i) 0
+    → packetOf s (take (length (recordFrom at i) - tickLength) (drop tickLength (recordFrom at i))) tick ≡ recordOf s (firstOf (drop at i))
+record-there i at tick s h e =
+    let r : List ℕ = recordFrom at i in
+    let n : at + recordLength - at ≡ recordLength = omega arith in
+    let whole : length r ≡ recordLength = length-take-le (at + recordLength - at) (drop at i) (omega (arith, length-drop at i)) ∙ n in
+    let part : take (length r - tickLength) (drop tickLength r) ≡ drop tickLength r = take-all (length r - tickLength) (drop tickLength r) (omega (arith, length-drop tickLength r)) in
+    (λ j. packetOf s (part j) (e j)) ∙ sym (record-whole s r whole) ∙ ap (λ (k : ℕ). recordOf s (take k (drop at i))) n
 
 -- the end
 pub ending-empty : (number : ℕ) (rest : List ℕ) → length rest ≡ 0 → endLine number ≡ endingOf number rest
@@ -149,13 +134,13 @@ ending-cut number rest h e = rw (ne-eqb (length rest) 0 h, ne-eqb number mostRec
 -- one record more is handled: its packet as the code takes it out of the input, and its line put behind the others
 pub handled-more : {s : Slave} {number : ℕ} {i : List ℕ} {k : ℕ} {out d d′ : List ℕ} {p : Piece} {tick end : ℕ} {q : Result Report} → Handled s number i k out d p
     → p .used + recordLength ≤ length i
-    → tick ≡ be32At i (p .used)
-    → q ≡ packetOf (p .slave) (take (p .used + recordLength - (p .used + tickLength)) (drop (p .used + tickLength) i)) tick
+    → tick ≡ be32At (recordFrom (p .used) i) 0
+    → q ≡ packetOf (p .slave) (take (length (recordFrom (p .used) i) - tickLength) (drop tickLength (recordFrom (p .used) i))) tick
     → Puts lineRoom d (p .filled) (lineOf (p .number) (q .reply)) d′ end
     → Handled s number i (k + 1) out d′ (record { slave = q .slave; number = p .number + 1; used = p .used + recordLength; filled = end })
 handled-more {s} {number} {i} {k} {p = p} {tick = tick} {q = q} h room ticks packet put =
     let same : q ≡ recordOf (slaveAfter k s i) (firstOf (drop (recordLength * k) i)) =
-    packet ∙ record-there i (p .used) room (p .slave) tick ticks ∙ (λ j. recordOf (h .slave j) (firstOf (drop (h .used j) i))) in
+    packet ∙ record-there i (p .used) tick (p .slave) room ticks ∙ (λ j. recordOf (h .slave j) (firstOf (drop (h .used j) i))) in
     record {
       slave = (λ j. same j .slave) ∙ slave-more k s i;
       next = omega (arith, h .next);

@@ -14,11 +14,14 @@ ghost use Rattle.lines.specs.Pieces.{handledIn, Handled, PieceTaken, end
 
 // The bytes of a capture's settings, and of a record with its tick: specs/Log.antt.
 pub const SETTINGS_LENGTH: usize = 9;
+
 const TICK_LENGTH: usize = 4;
+
 pub const RECORD_LENGTH: usize = TICK_LENGTH + wire::PACKET_LENGTH;
 
 // The most bytes of an opening, where the site line is the longest, and of an ending.
 pub const OPENING_ROOM: usize = text::SITE_ROOM;
+
 pub const ENDING_ROOM: usize = text::LINE_ROOM + text::END_ROOM;
 
 // What the settings at the front of a capture give, and how many bytes were written.
@@ -123,10 +126,10 @@ fn records(s: Slave, number: u64, input: &[u8], out: &mut [u8]) -> Piece
     let mut end = 0;
     let mut done = 0;
     while done < whole {
-        let from = used + TICK_LENGTH;
         let to = used + RECORD_LENGTH;
-        let tick = wire::number32_at(input, used);
-        let r = slave::packet(after, &input[from..to], tick);
+        let bytes = &input[used..to];
+        let tick = wire::number32_at(bytes, 0);
+        let r = slave::packet(after, &bytes[TICK_LENGTH..], tick);
         let answer = r.answer;
         end = text::put_line(out, end, next, answer);
         after = r.slave;

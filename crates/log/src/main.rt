@@ -9,7 +9,9 @@ ghost use lib.ListN.{length};
 
 // The buffers' records, and room for them and for their lines.
 const RECORDS: usize = 1024;
+
 const INPUT_ROOM: usize = RECORDS * lines::RECORD_LENGTH;
+
 const OUTPUT_ROOM: usize = RECORDS * text::LINE_ROOM;
 
 // Where the log stands: the slave, the next record's number, and how many bytes at the front of the input are still to be used.

@@ -17,22 +17,36 @@ ghost use Rattle.text.specs.Puts.{Puts, Placed};
 
 // The fixed words: specs/Words.antt.
 const SITE_WORD: [u8; 5] = *b"site ";
+
 const CADENCE_WORD: [u8; 9] = *b" cadence ";
+
 const REFUSED_WORD: [u8; 8] = *b"refused ";
+
 const END_WORD: [u8; 4] = *b"end ";
+
 const TAKEN_WORD: [u8; 5] = *b"taken";
+
 const SLIP_WORD: [u8; 4] = *b"slip";
+
 const UNTIMED_WORD: [u8; 7] = *b"untimed";
+
 const LATE_WORD: [u8; 4] = *b"late";
 
 // The most bytes that each part takes: specs/Rooms.antt.
 const MOST_DIGITS: usize = 20;
+
 const COLUMN_ROOM: usize = MOST_DIGITS;
+
 const MARK_ROOM: usize = COLUMN_ROOM;
+
 const REPORT_ROOM: usize = COLUMN_ROOM + 1 + COLUMN_ROOM + 1 + MARK_ROOM + 1;
+
 pub const REFUSAL_ROOM: usize = REFUSED_WORD.len() + MOST_DIGITS + 1;
+
 pub const LINE_ROOM: usize = MOST_DIGITS + 1 + REPORT_ROOM;
+
 pub const SITE_ROOM: usize = SITE_WORD.len() + MOST_DIGITS + CADENCE_WORD.len() + MOST_DIGITS + 1;
+
 pub const END_ROOM: usize = END_WORD.len() + MOST_DIGITS + 1;
 
 // How many digits a number has.

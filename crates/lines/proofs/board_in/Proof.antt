@@ -16,7 +16,7 @@ number32-at-requires : tie.Need-number32-at-requires
 number32-at-requires c κs = search needs
 
 returns : tie.Need-returns
-returns c = 
+returns c =
     λ j.
     record { profile = c .before .before .before .byte-at .ensures j; n = c .before .before .number16-at .ensures j; site = c .before .number16-at2 .ensures j; tad = c .number32-at .ensures j }
 

@@ -34,7 +34,7 @@ loop-less : tie.Need-loop-less Inv-loop μ-loop
 loop-less c = search needs
 
 loop-again : tie.Need-loop-again Inv-loop μ-loop
-loop-again c = 
+loop-again c =
     let l = c .before .before .loop in
     (one-more _ _ _ (search needs) _ _ (l .inv .0) (l .inv .1), search needs, search needs, simp length-set (l .inv .3))
 
@@ -42,7 +42,7 @@ same-length : tie.Need-same-length Inv-loop μ-loop
 same-length c = search needs
 
 returns : tie.Need-returns Inv-loop μ-loop
-returns c = 
+returns c =
     let a = c .before .before .args in
     let l = c .before .loop in
     rw (l .inv .0) (all-moved (now (a .buf)) (a .from) (a .to) (l .k) (search needs) (search needs))

@@ -27,7 +27,7 @@ put-end-requires-3 : tie.Need-put-end-requires-3
 put-end-requires-3 c κs = search needs
 
 returns-3 : tie.Need-returns-3
-returns-3 c = 
+returns-3 c =
     let p = placed-puts (c .before .before .put-line .ensures) (search needs) (search needs) in
     refront (ending-cut _ _ (c .before .before .before .before .before .if1 .left) (c .before .before .before .before .if2 .left)) (at-front (then p (placed-puts (c .put-end3 .ensures) (search needs) (search needs))))
 

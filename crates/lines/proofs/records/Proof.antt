@@ -31,7 +31,7 @@ handled-requires c κs = search needs
 
 loop-holds : tie.Need-loop-holds Inv-loop μ-loop
 unfolding slaveAfter linesOf
-loop-holds c = 
+loop-holds c =
     let a = c .before .before .before .args in
     let e = c .handled .ensures in
     let bytes = handled-bytes (length (now (a .input))) (length (now (a .out))) (a .number) in
@@ -39,11 +39,17 @@ loop-holds c =
     let most = handled-number (length (now (a .input))) (length (now (a .out))) (a .number) in
     (record { slave = refl; next = omega arith; used = omega arith; lines = nothing (now (a .out)) }, omega arith, omega arith, refl, omega arith, omega arith, omega arith)
 
-add-from : tie.Need-add-from Inv-loop μ-loop
-add-from c = search needs
-
 add-to : tie.Need-add-to Inv-loop μ-loop
 add-to c = search needs
+
+sub-bytes : tie.Need-sub-bytes Inv-loop μ-loop
+sub-bytes c = search needs
+
+part-bytes-start : tie.Need-part-bytes-start Inv-loop μ-loop
+part-bytes-start c = search needs
+
+part-bytes-end : tie.Need-part-bytes-end Inv-loop μ-loop
+part-bytes-end c = search needs
 
 number32-at-requires : tie.Need-number32-at-requires Inv-loop μ-loop
 number32-at-requires c κs = search needs
@@ -73,8 +79,8 @@ loop-less : tie.Need-loop-less Inv-loop μ-loop
 loop-less c = search needs
 
 loop-again : tie.Need-loop-again Inv-loop μ-loop
-loop-again c = 
-    let l = c .before .before .before .before .before .before .before .before .before .loop in
+loop-again c =
+    let l = c .before .before .before .before .before .before .before .before .before .before .loop in
     let t = placed-puts (c .before .before .before .put-line .ensures) (search needs) (search needs) in (
       handled-more (l .inv .0) (search needs) (c .before .before .before .before .before .before .before .number32-at .ensures) (c .before .before .before .before .before .packet .ensures) t,
       omega (arith, t .ends, t .short),
@@ -99,8 +105,10 @@ records-spec =
     μ-loop
     handled-requires
     loop-holds
-    add-from
     add-to
+    sub-bytes
+    part-bytes-start
+    part-bytes-end
     number32-at-requires
     sub-packet
     part-packet-start

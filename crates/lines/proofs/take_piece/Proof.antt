@@ -24,7 +24,7 @@ records-requires : tie.Need-records-requires
 records-requires c κs = search needs
 
 carry-requires : tie.Need-carry-requires
-carry-requires c κs = 
+carry-requires c κs =
     let d = now (c .before .before .before .before .before .before .before .before .before .before .args .input) in
     let within : c .before .before .before .before .before .before .before .least .result ≤ length d = omega (arith, c .before .before .before .before .before .before .before .least .ensures, min-le-right (c .before .before .before .before .before .before .before .before .before .before .args .n) (length d)) in
     (omega (arith, used-within (c .before .before .before .before .records .ensures), length-take-le (c .before .before .before .before .before .before .before .least .result) d within), within)
