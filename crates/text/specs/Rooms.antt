@@ -1,0 +1,30 @@
+-- The most bytes that each part of the log takes, computed from what is printed (`Line`): a buffer with so much room holds it.
+use Prim.Native.Nat.{ℕ, _+_}
+use lib.ListN.{length}
+use Rattle.text.specs.Decimal.{mostDigits}
+use Rattle.text.specs.Words.{siteWord, cadenceWord, refusedWord, endWord}
+
+-- a column: no word is longer than the longest number
+abbrev pub columnRoom : ℕ
+columnRoom = mostDigits
+
+-- the mark's column
+abbrev pub markRoom : ℕ
+markRoom = columnRoom
+
+-- the three columns, a byte behind each
+abbrev pub reportRoom : ℕ
+reportRoom = columnRoom + 1 + columnRoom + 1 + markRoom + 1
+
+abbrev pub refusalRoom : ℕ
+refusalRoom = length refusedWord + mostDigits + 1
+
+-- a record's line: a report is longer than a refusal
+abbrev pub lineRoom : ℕ
+lineRoom = mostDigits + 1 + reportRoom
+
+abbrev pub siteRoom : ℕ
+siteRoom = length siteWord + mostDigits + length cadenceWord + mostDigits + 1
+
+abbrev pub endRoom : ℕ
+endRoom = length endWord + mostDigits + 1
