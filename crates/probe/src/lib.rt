@@ -3,6 +3,7 @@
 use addressing::Settings;
 use addressing::Walked;
 use cadence::LabelAnswer;
+use slave::Way;
 use state::Slave;
 use times::Periods;
 use times::Steps;
@@ -120,5 +121,50 @@ pub extern "C" fn probe_mobile_place(i: u8, p: u16) -> u16
 pub extern "C" fn probe_packet(s: Slave, p: &[u8], tick: u32) -> Step
     ensures { λ r. ⌜ r ≡ flatStep (packetOf s (now (p .entry)) tick) ⌝ }
 {
-    vikombare::step_of(s, slave::way_of(s, p, tick))
+    match slave::way_of(s, p, tick) {
+        Way::Short(q) => {
+            let board = s.board;
+            let settings = s.settings;
+            let count = q.count;
+            let waiting = s.waiting;
+            let answer = q.answer;
+            return Step {
+                slave: Slave {
+                    board: board,
+                    settings: settings,
+                    count: count,
+                    waiting: waiting,
+                },
+                reply: replies::reply_of(answer),
+            };
+        }
+        Way::Moved(m) => {
+            let board = s.board;
+            let settings = m.settings;
+            let count = m.count;
+            let waiting = m.waiting;
+            let answer = m.answer;
+            return Step {
+                slave: Slave {
+                    board: board,
+                    settings: settings,
+                    count: count,
+                    waiting: waiting,
+                },
+                reply: replies::reply_of(answer),
+            };
+        }
+        Way::Refused(k) => {
+            return Step {
+                slave: s,
+                reply: replies::refused(k),
+            };
+        }
+        Way::Cold => {
+            return Step {
+                slave: state::cold_slave(),
+                reply: replies::refused(15),
+            };
+        }
+    }
 }

@@ -18,7 +18,6 @@ ghost use Rattle.notice.specs.Reader.{readOf};
 ghost use Rattle.writer.specs.Writer.{writeOf};
 ghost use Rattle.slave.specs.Answer.{shiftedOf};
 ghost use Rattle.slave.specs.Calls.{startOf, packetOf, numbersOf, gapOf};
-ghost use Rattle.slave.specs.Ways.{wayOf};
 ghost use Rattle.saved.specs.Block.{saveOf, resumeOf};
 ghost use Rattle.vikombare.specs.Flat.{tickOn, flatChange, flatLeft, flatStep, dvbBoard, a110Board, filledWith, flatOutput, flatNotice};
 
@@ -140,11 +139,12 @@ pub extern "C" fn vikombare_packet(s: &mut Slave, p: &[u8], tick: Tick) -> Packe
     }
 }
 
-// The slave that a way leaves, built anew from its parts, and its reply.
-pub fn step_of(s: Slave, w: Way) -> Step
-    ensures { λ r. ⌜ r ≡ flatStep (wayOf s w) ⌝ }
+// A packet that comes with a notice in numbers, profile 1. The slave is handed back, built anew from its parts.
+#[no_mangle]
+pub extern "C" fn vikombare_numbers(s: Slave, p: &[u8], tick: Periods, x: Numbers) -> Step
+    ensures { λ r. ⌜ r ≡ flatStep (numbersOf s (now (p .entry)) (tick .0) x) ⌝ }
 {
-    match w {
+    match slave::numbers_way(s, p, tick.0, x) {
         Way::Short(q) => {
             let board = s.board;
             let settings = s.settings;
@@ -190,14 +190,6 @@ pub fn step_of(s: Slave, w: Way) -> Step
             };
         }
     }
-}
-
-// A packet that comes with a notice in numbers, profile 1. The slave is handed back.
-#[no_mangle]
-pub extern "C" fn vikombare_numbers(s: Slave, p: &[u8], tick: Periods, x: Numbers) -> Step
-    ensures { λ r. ⌜ r ≡ flatStep (numbersOf s (now (p .entry)) (tick .0) x) ⌝ }
-{
-    step_of(s, slave::numbers_way(s, p, tick.0, x))
 }
 
 // A gap of k packets.
