@@ -4,13 +4,13 @@ use mathlib.Core.Bool.{true}
 use Prim.Native.Nat.{ℕ}
 use native.Mathlib.Omega.{arith}
 use lib.Dec.{eqb}
-use borrow.Author.Tests.{eqb-true}
 use Rattle.wire.proofs.Tests.{pick, must-be}
 use Rattle.times.specs.Release.{Due, dueOf}
 use Rattle.state.specs.Profile.{second}
 use Rattle.state.specs.declared.Slave.{Slave}
 use Rattle.slave.specs.Answer.{Mark, unmarked, untimed, due}
-use Rattle.slave.specs.Step.{releaseAt, markAt, agrees, markTaken}
+use Rattle.slave.specs.Step.{releaseAt, onMark, markAt, agrees, markTaken}
+use Rattle.slave.proofs.Stepping.{marked}
 
 pub record OwnDue (s : Slave) (tick profile : ℕ) (d : Due) : Type 0 where
   pub label : s .count .next ≡ 0
@@ -30,9 +30,9 @@ module _ (profile : ℕ) (d : Due) where
     pub own-due : markAt s tick ≡ due profile d → OwnDue s tick profile d
     unfolding markAt releaseAt
     own-due e =
-        let f = must-be (eqb (s .count .next) 0) _ unmarked (due profile d) unmarked-apart e in
+        let f = must-be (onMark (s .count)) _ unmarked (due profile d) unmarked-apart e in
         let h = must-be (eqb (s .waiting .pending) 1) _ untimed (due profile d) untimed-apart (f .1) in
-        record { label = eqb-true _ _ (f .0); pending = h .0; unit = cc (h .1); due-is = cc (h .1) }
+        record { label = marked (s .count) (f .0) .1; pending = h .0; unit = cc (h .1); due-is = cc (h .1) }
 
     -- of a packet whose notice is taken: the slave had counted the same
     pub taken-due : (label : ℕ) → markTaken s label tick ≡ due profile d → OwnDue s tick profile d

@@ -1,55 +1,34 @@
--- A pending notice's release: the limits hold, and the sign of the wait decides.
+-- The release of a waiting notice: the limits hold, and the sign of the wait decides.
 use mathlib.Core.Path.{_≡_, refl, sym, ap, _∙_, subst}
 use mathlib.Core.Bool.{true, false}
 use Prim.Native.Nat.{ℕ, _+_, _^_, _<_}
 use native.Mathlib.Omega.{arith}
 use lib.IntN.{ℤ}
-use Rattle.times.specs.Release.{negative, Times, late, released, waitOf, timesOf, Kept}
+use Rattle.times.specs.Release.{negative, Times, late, released, waitOf, timesOf, dueOf, Kept}
 use Rattle.times.proofs.Answers.{due-late, due-released}
 use Rattle.state.specs.Profile.{second}
-use Rattle.state.specs.declared.Slave.{Slave}
 use Rattle.state.proofs.Profiles.{second-small}
-use Rattle.state.proofs.Sound.{pending-kept}
-use Rattle.slave.specs.Answer.{due}
-use Rattle.slave.specs.Step.{releaseAt}
-use Rattle.slave.specs.Ready.{Ready}
+use Rattle.slave.specs.Answer.{Mark, due}
 
-module _ (s : Slave) (tick : ℕ) where
-  -- U and OD as the code has them at hand
-  pub limits-hold : Ready s tick → s .count .phase ≡ 2 → s .waiting .pending ≡ 1 → {u : ℕ} {od : ℤ} → u ≡ second (s .board .profile) → od ≡ s .settings .od
-      → (u + u < 2 ^ 32) × Kept u (s .waiting .sts) (s .waiting .md) od (s .board .tad) tick
-  limits-hold r e p {u} {od} q o =
-      let k = pending-kept s (r .is-sound) e p tick (r .in-second) in
-      let b = second-small (s .board .profile) in (
+module _ (profile sts md : ℕ) (od : ℤ) (tad tick : ℕ) where
+  -- the second as the code has it, and OD read back from its bits
+  pub limits-hold : Kept (second profile) sts md od tad tick → {u : ℕ} {z : ℤ} → u ≡ second profile → z ≡ od → (u + u < 2 ^ 32) × Kept u sts md z tad tick
+  limits-hold k {u} {z} q o =
+      let b = second-small profile in (
         omega (arith, b, q),
-        subst (λ (z : ℤ). Kept u (s .waiting .sts) (s .waiting .md) z (s .board .tad) tick) (sym o)
-            (subst (λ (v : ℕ). Kept v (s .waiting .sts) (s .waiting .md) (s .settings .od) (s .board .tad) tick) (sym q) k),
+        subst (λ (x : ℤ). Kept u sts md x tad tick) (sym o) (subst (λ (v : ℕ). Kept v sts md od tad tick) (sym q) k),
       )
 
-  -- of the slave's own values
-  abbrev own-wait : ℤ
-  own-wait = waitOf (second (s .board .profile)) (s .waiting .sts) (s .waiting .md) (s .settings .od) (s .board .tad) tick
-
-  abbrev own-times : ℕ → ℤ → Times
-  own-times u od = timesOf u (s .waiting .sts) (s .waiting .md) od (s .board .tad) tick
-
   -- the times that the code reckoned are those of the definition
-  pub same-own : {t : Times} {u : ℕ} {od : ℤ} → u ≡ second (s .board .profile) → od ≡ s .settings .od → t ≡ own-times u od → t ≡ own-times (second (s .board .profile)) (s .settings .od)
-  same-own q o e = e ∙ (λ i. own-times (q i) (o i))
+  pub same-times-of : {t : Times} {u : ℕ} {z : ℤ} → u ≡ second profile → z ≡ od → t ≡ timesOf u sts md z tad tick → t ≡ timesOf (second profile) sts md od tad tick
+  same-times-of q o e = e ∙ (λ i. timesOf (q i) sts md (o i) tad tick)
 
-  module _ (k : ℕ) (e : s .board .profile ≡ k) (t : Times) (q : t ≡ own-times (second (s .board .profile)) (s .settings .od)) where
-    signs : negative own-wait ≡ negative (t .wait)
+  module _ (k : ℕ) (e : profile ≡ k) (t : Times) (q : t ≡ timesOf (second profile) sts md od tad tick) where
+    signs : negative (waitOf (second profile) sts md od tad tick) ≡ negative (t .wait)
     signs = sym (ap (λ (x : Times). negative (x .wait)) q)
 
-    pub release-late : negative (t .wait) ≡ true → due k late ≡ releaseAt s tick
-    unfolding releaseAt
-    release-late h =
-        let d = due-late (second (s .board .profile)) (s .waiting .sts) (s .waiting .md) (s .settings .od) (s .board .tad) tick (signs ∙ h) in
-        λ i. due (sym e i) (sym d i)
+    pub release-late : negative (t .wait) ≡ true → due k late ≡ due profile (dueOf (second profile) sts md od tad tick)
+    release-late h = let d = due-late (second profile) sts md od tad tick (signs ∙ h) in λ i. due (sym e i) (sym d i)
 
-    pub release-given : negative (t .wait) ≡ false → due k (released t) ≡ releaseAt s tick
-    unfolding releaseAt
-    release-given h =
-        let d = due-released (second (s .board .profile)) (s .waiting .sts) (s .waiting .md) (s .settings .od) (s .board .tad) tick (signs ∙ h) in
-        let r = ap released q ∙ sym d in
-        λ i. due (sym e i) (r i)
+    pub release-given : negative (t .wait) ≡ false → due k (released t) ≡ due profile (dueOf (second profile) sts md od tad tick)
+    release-given h = let d = ap released q ∙ sym (due-released (second profile) sts md od tad tick (signs ∙ h)) in λ i. due (sym e i) (d i)

@@ -37,9 +37,13 @@ unfoldable pub releaseAt : Slave → ℕ → Mark
 releaseAt s tick =
     due (s .board .profile) (dueOf (second (s .board .profile)) (s .waiting .sts) (s .waiting .md) (s .settings .od) (s .board .tad) tick)
 
--- the mark on a packet whose label the slave counted: label 0 is the mark; a pending notice is released, with none it is untimed
+-- a locked slave's next packet is a mark
+abbrev pub onMark : Count → Bool
+onMark c = eqb (c .phase) 2 && eqb (c .next) 0
+
+-- the mark on a packet whose label the slave counted: a pending notice is released, with none it is untimed
 unfoldable pub markAt : Slave → ℕ → Mark
-markAt s tick = cond (eqb (s .count .next) 0) (cond (eqb (s .waiting .pending) 1) (releaseAt s tick) untimed) unmarked
+markAt s tick = cond (onMark (s .count)) (cond (eqb (s .waiting .pending) 1) (releaseAt s tick) untimed) unmarked
 
 -- the index after the mark on this packet, and what is kept of a pending notice
 abbrev pub indexAt : Count → ℕ
@@ -48,16 +52,24 @@ indexAt c = cond (eqb (c .next) 0) (raised (c .index) 1) (c .index)
 abbrev pub keptAt : Slave → Waiting
 keptAt s = cond (eqb (s .count .next) 0) nothing (s .waiting)
 
+-- the report on a counted packet of which no notice is taken; a hunting slave has no label, no mark and no place
+abbrev pub countedReport : (label index : ℕ) → Notice → Mark → Report
+countedReport label index notice mark =
+    record { label = some label; notice = notice; turn = false; mark = mark; place = placeOf index label }
+
+abbrev pub unheardReport : Notice → Report
+unheardReport notice = record { label = none; notice = notice; turn = false; mark = unmarked; place = none }
+
 -- a locked slave counts a packet that carries no notice for it
 unfoldable pub passed : Slave → Notice → ℕ → Result Report
 passed s notice tick =
     left
     (movedTo s (s .settings) (lockedAt (nextLabel (s .board .n) (s .count .next)) (indexAt (s .count))) (keptAt s))
-    (given (record { label = some (s .count .next); notice = notice; turn = false; mark = markAt s tick; place = placeOf (indexAt (s .count)) (s .count .next) }))
+    (given (countedReport (s .count .next) (indexAt (s .count)) notice (markAt s tick)))
 
--- a hunting slave has no label, no mark and no place
+-- a hunting slave stays as it is
 unfoldable pub unheard : Slave → Notice → Result Report
-unheard s notice = left s (given (record { label = none; notice = notice; turn = false; mark = unmarked; place = none }))
+unheard s notice = left s (given (unheardReport notice))
 
 -- 0: the packet carries no notice
 abbrev pub noticeBy : ℕ → Notice

@@ -5,11 +5,24 @@ use Rattle.state.specs.Slave.{cold}
 use Rattle.state.specs.declared.Slave.{Slave}
 use Rattle.slave.specs.Answer.{answerOf, Report, Result, left}
 use Rattle.slave.specs.Step.{movedTo}
+use Rattle.slave.specs.declared.Short.{Short}
+use Rattle.slave.specs.declared.Moved.{Moved}
 use Rattle.slave.specs.declared.Way.{Way}
 use Rattle.slave.specs.declared.Way.the-variants as way
+
+-- the count alone moves
+abbrev pub shortOf : Slave → Short → Result Report
+shortOf s q =
+    left
+    (movedTo s (s .settings) (record { phase = s .count .phase; next = q .next; index = s .count .index }) (s .waiting))
+    (answerOf (q .answer))
+
+-- all that a packet may change
+abbrev pub movedOf : Slave → Moved → Result Report
+movedOf s m = left (movedTo s (m .settings) (m .count) (m .waiting)) (answerOf (m .answer))
 
 abbrev pub wayOf : Slave → Way → Result Report
 wayOf s way.Cold = left cold (refused 15)
 wayOf s (way.Refused k) = left s (refused k)
-wayOf s (way.Short q) = left (movedTo s (s .settings) (q .count) (s .waiting)) (answerOf (q .answer))
-wayOf s (way.Moved m) = left (movedTo s (m .settings) (m .count) (m .waiting)) (answerOf (m .answer))
+wayOf s (way.Short q) = shortOf s q
+wayOf s (way.Moved m) = movedOf s m

@@ -11,6 +11,9 @@ use times::DvbTimes;
 ghost use mathlib.Core.Path.{_≡_};
 ghost use Rattle.slave.specs.Answer.{steppedOf, shiftedOf};
 ghost use Rattle.slave.specs.Calls.{startOf, packetOf, numbersOf, gapOf};
+ghost use Rattle.judging.specs.Judge.{judgeArrived, judgeGiven};
+ghost use Rattle.slave.specs.Step.{stepOf};
+ghost use Rattle.slave.specs.Ready.{Ready};
 ghost use Rattle.slave.specs.Ways.{wayOf};
 
 // A label or a place.
@@ -70,9 +73,9 @@ pub struct Shifted {
     pub outcome: Outcome,
 }
 
-// The count moves, and nothing else of the slave.
+// The next label moves, and nothing else of the slave.
 pub struct Short {
-    pub count: Count,
+    pub next: u16,
     pub answer: Answer,
 }
 
@@ -120,6 +123,49 @@ pub fn start(b: Board) -> Shifted
     }
 }
 
+// A packet that arrived right, on a sound slave. Packets and numbers notices have a function each, of one caller, so that the compiler keeps the
+// steps of either out of memory.
+fn arrived(s: Slave, p: &[u8], tick: u32) -> Way
+    requires { ⌜ Ready s tick ⌝ }
+    ensures { λ r. ⌜ wayOf s r ≡ stepOf s (judgeArrived (s .board) (s .settings) (now (p .entry))) tick ⌝ }
+{
+    let board = s.board;
+    let settings = s.settings;
+    match judging::judge_arrived(board, settings, p) {
+        Judged::Counts(k) => {
+            let count = s.count;
+            if steps::on_mark(count) {
+                return Way::Moved(steps::pass_mark(s, k, steps::mark_at(s, tick)));
+            }
+            return Way::Short(steps::pass_on(s, k));
+        }
+        Judged::Takes(t) => {
+            return Way::Moved(steps::take(s, t, steps::mark_at(s, tick)));
+        }
+    }
+}
+
+// A numbers notice whose packet arrived right, on a sound slave.
+fn given(s: Slave, p: &[u8], tick: u32, x: Numbers) -> Way
+    requires { ⌜ Ready s tick ⌝ }
+    ensures { λ r. ⌜ wayOf s r ≡ stepOf s (judgeGiven (s .board) (s .settings) (now (p .entry)) x) tick ⌝ }
+{
+    let board = s.board;
+    let settings = s.settings;
+    match judging::judge_given(board, settings, p, x) {
+        Judged::Counts(k) => {
+            let count = s.count;
+            if steps::on_mark(count) {
+                return Way::Moved(steps::pass_mark(s, k, steps::mark_at(s, tick)));
+            }
+            return Way::Short(steps::pass_on(s, k));
+        }
+        Judged::Takes(t) => {
+            return Way::Moved(steps::take(s, t, steps::mark_at(s, tick)));
+        }
+    }
+}
+
 // What a packet with its arrival tick does. Each thing is judged once, in document 01's order: 15, then 1 to 3, then 4 and 6 to 13.
 pub fn way_of(s: Slave, p: &[u8], tick: u32) -> Way
     ensures { λ r. ⌜ wayOf s r ≡ packetOf s (now (p .entry)) tick ⌝ }
@@ -135,11 +181,7 @@ pub fn way_of(s: Slave, p: &[u8], tick: u32) -> Way
     if refusal != 0 {
         return Way::Refused(refusal);
     }
-    let settings = s.settings;
-    match judging::judge_arrived(board, settings, p) {
-        Judged::Counts(k) => steps::count(s, k, tick),
-        Judged::Takes(t) => steps::take(s, t, tick),
-    }
+    arrived(s, p, tick)
 }
 
 // What a numbers notice with its packet and arrival tick does: 15, then 1 to 3, 20, 4 and 11 to 13.
@@ -160,11 +202,7 @@ pub fn numbers_way(s: Slave, p: &[u8], tick: u32, x: Numbers) -> Way
     if board.profile == 0 {
         return Way::Refused(20);
     }
-    let settings = s.settings;
-    match judging::judge_given(board, settings, p, x) {
-        Judged::Counts(k) => steps::count(s, k, tick),
-        Judged::Takes(t) => steps::take(s, t, tick),
-    }
+    given(s, p, tick, x)
 }
 
 // The slave that a way leaves, and its reply.
@@ -175,14 +213,17 @@ fn applied(s: Slave, w: Way) -> Stepped
         Way::Short(q) => {
             let board = s.board;
             let settings = s.settings;
-            let count = q.count;
             let waiting = s.waiting;
             let answer = q.answer;
             return Stepped {
                 slave: Slave {
                     board: board,
                     settings: settings,
-                    count: count,
+                    count: Count {
+                        phase: s.count.phase,
+                        next: q.next,
+                        index: s.count.index,
+                    },
                     waiting: waiting,
                 },
                 answer: answer,

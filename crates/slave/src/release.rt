@@ -2,7 +2,6 @@
 // arrival tick is one of its second.
 use crate::MarkPart;
 use crate::PlainTimes;
-use state::Slave;
 use times::A110Times;
 use times::DvbTimes;
 use times::Periods;
@@ -10,11 +9,9 @@ use times::Steps;
 ghost use mathlib.Core.Path.{_≡_};
 ghost use mathlib.Core.Bool.{true};
 ghost use Prim.Native.Nat.{_+_, _<_, _^_};
-ghost use Rattle.times.specs.Release.{wrap, reference, emission, modulation, linkDelay, wait, delayFits, timesOf, Kept};
+ghost use Rattle.times.specs.Release.{wrap, reference, emission, modulation, linkDelay, wait, delayFits, timesOf, dueOf, Kept};
 ghost use Rattle.state.specs.Profile.{second};
-ghost use Rattle.slave.specs.Answer.{markOf, plainTimes};
-ghost use Rattle.slave.specs.Step.{releaseAt};
-ghost use Rattle.slave.specs.Ready.{Ready};
+ghost use Rattle.slave.specs.Answer.{due, markOf, plainTimes};
 
 // A sum that exceeds u loses u.
 fn wrapped(u: u32, x: u32) -> u32
@@ -98,23 +95,13 @@ fn second_of(profile: u8) -> u32
     times::DVB_SECOND
 }
 
-// The pending notice's release, by the settings in force.
-pub(crate) fn release_at(s: Slave, tick: u32) -> MarkPart
-    requires { ⌜ Ready s tick × (s .count .phase ≡ 2) × (s .waiting .pending ≡ 1) ⌝ }
-    ensures { λ r. ⌜ markOf r ≡ releaseAt s tick ⌝ }
+// The release of a notice that waits, in the unit of its profile. The parts come one by one: the compiler then keeps them out of memory.
+pub(crate) fn release_at(profile: u8, tad: u32, od: i16, sts: u32, md: u32, tick: u32) -> MarkPart
+    requires { ⌜ Kept (second profile) sts md od tad tick × (profile < 2) ⌝ }
+    ensures { λ r. ⌜ markOf r ≡ due profile (dueOf (second profile) sts md od tad tick) ⌝ }
 {
-    let board = s.board;
-    let settings = s.settings;
-    let waiting = s.waiting;
-    let t = times_in(
-        second_of(board.profile),
-        waiting.sts,
-        waiting.md,
-        settings.od,
-        board.tad,
-        tick,
-    );
-    if board.profile == 1 {
+    let t = times_in(second_of(profile), sts, md, od, tad, tick);
+    if profile == 1 {
         if t.wait < 0 {
             return MarkPart::A110Late;
         }

@@ -6,7 +6,6 @@ use crate::Maybe;
 use crate::Moved;
 use crate::NoticePart;
 use crate::Short;
-use crate::Way;
 use crate::release;
 use judging::Taken;
 use state::Count;
@@ -14,13 +13,16 @@ use state::Slave;
 use state::Waiting;
 ghost use mathlib.Core.Path.{_≡_};
 ghost use mathlib.Core.Bool.{cond};
-ghost use Prim.Native.Nat.{_<_, _≤_};
+ghost use mathlib.Core.Bool.{true, false};
+ghost use Prim.Native.Nat.{ℕ, _<_, _≤_};
 ghost use lib.Dec.{eqb};
 ghost use Rattle.cadence.specs.Label.{nextLabel};
-ghost use Rattle.slave.specs.Answer.{optionOf, noticeOf, markOf, untimed};
-ghost use Rattle.slave.specs.Step.{raised, placeOf, lockedAt, releaseAt, indexAt, noticeBy, counted, agrees, indexBefore, indexAfter, turns, noticeTaken, markTaken, took};
+ghost use Rattle.wire.specs.Reply.{given};
+ghost use Rattle.state.specs.Sound.{sound};
+ghost use Rattle.slave.specs.Answer.{optionOf, noticeOf, markOf, answerOf, untimed, unmarked};
+ghost use Rattle.slave.specs.Step.{raised, placeOf, lockedAt, onMark, markAt, indexAt, countedReport, noticeBy, counted, agrees, indexBefore, indexAfter, turns, noticeTaken, took};
 ghost use Rattle.slave.specs.Ready.{Ready};
-ghost use Rattle.slave.specs.Ways.{wayOf};
+ghost use Rattle.slave.specs.Ways.{shortOf, movedOf};
 
 // The next mark's index where it is not known.
 const UNKNOWN: u8 = 255;
@@ -79,64 +81,96 @@ fn notice_by(k: u8) -> NoticePart
     NoticePart::Ignored(k)
 }
 
-// The mark that a locked slave counted.
-fn mark_due(s: Slave, tick: u32) -> MarkPart
-    requires { ⌜ Ready s tick × (s .count .phase ≡ 2) ⌝ }
-    ensures { λ r. ⌜ markOf r ≡ cond (eqb (s .waiting .pending) 1) (releaseAt s tick) untimed ⌝ }
+// A locked slave's next packet is a mark.
+pub(crate) fn on_mark(c: Count) -> bool
+    ensures { λ r. ⌜ r ≡ onMark c ⌝ }
 {
+    if c.phase == 2 {
+        return c.next == 0;
+    }
+    false
+}
+
+// The mark on a packet whose label the slave counted.
+pub(crate) fn mark_at(s: Slave, tick: u32) -> MarkPart
+    requires { ⌜ Ready s tick ⌝ }
+    ensures { λ r. ⌜ markOf r ≡ markAt s tick ⌝ }
+{
+    let count = s.count;
     let waiting = s.waiting;
+    if !on_mark(count) {
+        return MarkPart::Unmarked;
+    }
     if waiting.pending == 1 {
-        return release::release_at(s, tick);
+        let board = s.board;
+        let settings = s.settings;
+        return release::release_at(
+            board.profile,
+            board.tad,
+            settings.od,
+            waiting.sts,
+            waiting.md,
+            tick,
+        );
     }
     MarkPart::Untimed
 }
 
-// A packet of which no notice is taken.
-pub(crate) fn count(s: Slave, k: u8, tick: u32) -> Way
-    requires { ⌜ Ready s tick ⌝ }
-    ensures { λ r. ⌜ wayOf s r ≡ counted s k tick ⌝ }
+// The answer to a counted packet of which no notice is taken.
+fn counted(label: u16, index: u8, k: u8, mark: MarkPart) -> Answer
+    ensures { λ r. ⌜ answerOf r ≡ given (countedReport label index (noticeBy k) (markOf mark)) ⌝ }
+{
+    Answer::Counted(Counted {
+        label: Maybe::Just(label),
+        notice: notice_by(k),
+        turn: false,
+        mark: mark,
+        place: place_of(index, label),
+    })
+}
+
+// A packet of which no notice is taken and which is no mark: the count moves on, where there is one.
+pub(crate) fn pass_on(s: Slave, k: u8) -> Short
+    requires { ⌜ (sound s ≡ true) × (onMark (s .count) ≡ false) ⌝ }
+    ensures { λ r. ⌜ ((tick : ℕ) → shortOf s r ≡ counted s k tick) ⌝ }
 {
     let count = s.count;
     let board = s.board;
     let label = count.next;
-    if count.phase != 2 {
-        return Way::Short(Short {
-            count: count,
-            answer: Answer::Counted(Counted {
-                label: Maybe::Nothing,
-                notice: notice_by(k),
-                turn: false,
-                mark: MarkPart::Unmarked,
-                place: Maybe::Nothing,
-            }),
-        });
+    if count.phase == 2 {
+        return Short {
+            next: next_label(board.n, label),
+            answer: counted(label, count.index, k, MarkPart::Unmarked),
+        };
     }
-    if label != 0 {
-        return Way::Short(Short {
-            count: locked_at(next_label(board.n, label), count.index),
-            answer: Answer::Counted(Counted {
-                label: Maybe::Just(label),
-                notice: notice_by(k),
-                turn: false,
-                mark: MarkPart::Unmarked,
-                place: place_of(count.index, label),
-            }),
-        });
+    Short {
+        next: label,
+        answer: Answer::Counted(Counted {
+            label: Maybe::Nothing,
+            notice: notice_by(k),
+            turn: false,
+            mark: MarkPart::Unmarked,
+            place: Maybe::Nothing,
+        }),
     }
+}
+
+// A mark of which no notice is taken: a waiting notice is released, and gone.
+pub(crate) fn pass_mark(s: Slave, k: u8, own: MarkPart) -> Moved
+    requires { ⌜ (sound s ≡ true) × (onMark (s .count) ≡ true) ⌝ }
+    ensures { λ r. ⌜ ((tick : ℕ) → markOf own ≡ markAt s tick → movedOf s r ≡ counted s k tick) ⌝ }
+{
+    let board = s.board;
     let settings = s.settings;
+    let count = s.count;
+    let label = count.next;
     let index = raised(count.index, 1);
-    Way::Moved(Moved {
+    Moved {
         settings: settings,
         count: locked_at(next_label(board.n, label), index),
         waiting: state::nothing_waiting(),
-        answer: Answer::Counted(Counted {
-            label: Maybe::Just(label),
-            notice: notice_by(k),
-            turn: false,
-            mark: mark_due(s, tick),
-            place: place_of(index, label),
-        }),
-    })
+        answer: counted(label, index, k, own),
+    }
 }
 
 // Whether a locked slave counted this label.
@@ -150,18 +184,16 @@ fn agrees(c: Count, label: u16) -> bool
 }
 
 // The mark on a packet whose notice is taken: on agreement the counted one, else label 0 is untimed.
-fn mark_taken(s: Slave, label: u16, tick: u32) -> MarkPart
-    requires { ⌜ Ready s tick ⌝ }
-    ensures { λ r. ⌜ markOf r ≡ markTaken s label tick ⌝ }
+fn mark_taken(c: Count, label: u16, own: MarkPart) -> MarkPart
+    ensures { λ r. ⌜ markOf r ≡ cond (agrees c label) (markOf own) (cond (eqb label 0) untimed unmarked) ⌝ }
 {
-    let count = s.count;
-    if 0 < label {
-        return MarkPart::Unmarked;
+    if agrees(c, label) {
+        return own;
     }
-    if agrees(count, label) {
-        return mark_due(s, tick);
+    if label == 0 {
+        return MarkPart::Untimed;
     }
-    MarkPart::Untimed
+    MarkPart::Unmarked
 }
 
 // The index after the mark on this packet.
@@ -220,9 +252,9 @@ fn notice_taken(c: Count, label: u16) -> NoticePart
 }
 
 // A notice is taken: its label decides, then the notice and its settings enter.
-pub(crate) fn take(s: Slave, t: Taken, tick: u32) -> Way
-    requires { ⌜ Ready s tick × (t .pointer < s .board .n) ⌝ }
-    ensures { λ r. ⌜ wayOf s r ≡ took s t tick ⌝ }
+pub(crate) fn take(s: Slave, t: Taken, own: MarkPart) -> Moved
+    requires { ⌜ t .pointer < s .board .n ⌝ }
+    ensures { λ r. ⌜ ((tick : ℕ) → markOf own ≡ markAt s tick → movedOf s r ≡ took s t tick) ⌝ }
 {
     let board = s.board;
     let count = s.count;
@@ -230,7 +262,7 @@ pub(crate) fn take(s: Slave, t: Taken, tick: u32) -> Way
     let label = board.n - 1 - t.pointer;
     let before = index_before(count, label);
     let index = index_after(before, t.index);
-    Way::Moved(Moved {
+    Moved {
         settings: settings,
         count: locked_at(next_label(board.n, label), index),
         waiting: Waiting {
@@ -242,8 +274,8 @@ pub(crate) fn take(s: Slave, t: Taken, tick: u32) -> Way
             label: Maybe::Just(label),
             notice: notice_taken(count, label),
             turn: turned(before, t.index),
-            mark: mark_taken(s, label, tick),
+            mark: mark_taken(count, label, own),
             place: place_of(index, label),
         }),
-    })
+    }
 }

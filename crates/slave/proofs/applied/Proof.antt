@@ -12,7 +12,7 @@ enum-known-w : tie.Need-enum-known-w
 enum-known-w c = search needs
 
 returns : tie.Need-returns
-returns c = sym (ap (wayOf (c .before .before .before .before .before .before .before .args .s)) (c .before .before .before .before .before .w .given .1))
+returns c = sym (ap (wayOf (c .before .before .before .before .before .before .args .s)) (c .before .before .before .before .w .given .1))
 
 enum-known-w-2 : tie.Need-enum-known-w-2
 enum-known-w-2 c = search needs

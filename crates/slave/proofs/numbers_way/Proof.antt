@@ -4,15 +4,11 @@ use mathlib.Core.Path.{_≡_, refl, sym, ap, _∙_}
 use mathlib.Core.Bool.{true}
 use denote.Ref.{now}
 use borrow.Author.Tests.{not-true, not-false}
-use Rattle.times.specs.Release.{inSecond}
-use Rattle.state.specs.Profile.{second, settingsKept}
+use Rattle.state.specs.Profile.{settingsKept}
 use Rattle.state.specs.Sound.{sound}
-use Rattle.judging.specs.Judge.{arrivalRefusal, judgeGiven}
-use Rattle.judging.specs.Judgement.{judgementOf}
-use Rattle.judging.specs.declared.Judged.{Judged}
-use Rattle.judging.proofs.Judging.{arrived-tick, given-limits}
+use Rattle.judging.specs.Judge.{arrivalRefusal}
+use Rattle.judging.proofs.Judging.{arrived-tick}
 use Rattle.slave.specs.Ready.{Ready}
-use Rattle.slave.specs.Step.{stepOf}
 use Rattle.slave.proofs.Calling.{unsound-settings, unsound-parts, sound-parts, numbers-cold, numbers-refused, numbers-20, numbers-steps}
 use Rattle.slave.proofs.numbers_way.Statement.{statement}
 use Rattle.slave.proofs.numbers_way.Tie as tie
@@ -24,11 +20,11 @@ kept c = sym (c .before .settings-kept .ensures) ∙ not-false _ (c .if1 .left)
 is-sound : (c : tie.Else2) → sound (c .before .before .before .before .before .before .args .s) ≡ true
 is-sound c = sound-parts (c .before .before .before .before .before .before .args .s) (kept (c .before .before)) (sym (c .before .parts-fit .ensures) ∙ not-false _ (c .if2 .left))
 
-arrived : (c : tie.Else3) → let a = c .before .before .before .before .before .before .before .before .args in arrivalRefusal (a .s .board .profile) (now (a .p)) (a .tick) ≡ 0
-arrived c = sym (c .before .arrival-refusal .ensures) ∙ c .if3 .left
+arrives : (c : tie.Else3) → let a = c .before .before .before .before .before .before .before .before .args in arrivalRefusal (a .s .board .profile) (now (a .p)) (a .tick) ≡ 0
+arrives c = sym (c .before .arrival-refusal .ensures) ∙ c .if3 .left
 
 ready : (c : tie.Else3) → Ready (c .before .before .before .before .before .before .before .before .args .s) (c .before .before .before .before .before .before .before .before .args .tick)
-ready c = record { is-sound = is-sound (c .before .before); in-second = arrived-tick _ _ _ (arrived c) }
+ready c = record { is-sound = is-sound (c .before .before); in-second = arrived-tick _ _ _ (arrives c) }
 
 settings-kept-requires : tie.Need-settings-kept-requires
 settings-kept-requires c κs = search needs
@@ -49,36 +45,13 @@ returns-3 : tie.Need-returns-3
 returns-3 c = numbers-refused _ _ _ _ (is-sound (c .before .before)) _ (c .before .arrival-refusal .ensures) (c .if3 .taken)
 
 returns-4 : tie.Need-returns-4
-returns-4 c = numbers-20 _ _ _ _ (is-sound (c .before .before .before .before)) (arrived (c .before .before)) (c .if4 .taken)
+returns-4 c = numbers-20 _ _ _ _ (is-sound (c .before .before .before .before)) (arrives (c .before .before)) (c .if4 .taken)
 
-judge-given-requires : tie.Need-judge-given-requires
-judge-given-requires c κs = search needs
-
-enum-known-k : tie.Need-enum-known-k
-enum-known-k c = search needs
-
-count-requires : tie.Need-count-requires
-count-requires c κs = ready (c .before .before .before .before .before .before .before)
-
-enum-known-t : tie.Need-enum-known-t
-enum-known-t c = search needs
-
-take-requires : tie.Need-take-requires
-take-requires c κs =
-    let e = sym (c .before .before .before .judge-given .ensures) ∙ ap judgementOf (c .before .t .given .1) in
-    (ready (c .before .before .before .before .before .before .before), given-limits _ _ _ _ _ e .pointer)
+given-requires : tie.Need-given-requires
+given-requires c κs = ready (c .before .before)
 
 returns-5 : tie.Need-returns-5
-unfolding stepOf
-returns-5 c =
-    let e = sym (c .before .before .before .before .judge-given .ensures) ∙ ap judgementOf (c .before .before .k .given .1) in
-    c .count .ensures ∙ numbers-steps _ _ _ _ (is-sound (c .before .before .before .before .before .before .before .before .before .before)) (arrived (c .before .before .before .before .before .before .before .before)) (c .before .before .before .before .before .before .if4 .left) _ (sym e)
-
-returns-6 : tie.Need-returns-6
-unfolding stepOf
-returns-6 c =
-    let e = sym (c .before .before .before .before .judge-given .ensures) ∙ ap judgementOf (c .before .before .t .given .1) in
-    c .take .ensures ∙ numbers-steps _ _ _ _ (is-sound (c .before .before .before .before .before .before .before .before .before .before)) (arrived (c .before .before .before .before .before .before .before .before)) (c .before .before .before .before .before .before .if4 .left) _ (sym e)
+returns-5 c = c .given .ensures ∙ numbers-steps _ _ _ _ (is-sound (c .before .before .before .before .before)) (arrives (c .before .before .before)) (c .before .if4 .left) _ refl
 
 pub numbers-way-spec : {M : Type 1} → statement M
 numbers-way-spec =
@@ -91,10 +64,5 @@ numbers-way-spec =
     arrival-refusal-requires
     returns-3
     returns-4
-    judge-given-requires
-    enum-known-k
-    count-requires
-    enum-known-t
-    take-requires
-    returns-5
-    returns-6)
+    given-requires
+    returns-5)

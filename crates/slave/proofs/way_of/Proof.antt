@@ -4,15 +4,11 @@ use mathlib.Core.Path.{_≡_, refl, sym, ap, _∙_}
 use mathlib.Core.Bool.{true}
 use denote.Ref.{now}
 use borrow.Author.Tests.{not-true, not-false}
-use Rattle.times.specs.Release.{inSecond}
-use Rattle.state.specs.Profile.{second, settingsKept}
+use Rattle.state.specs.Profile.{settingsKept}
 use Rattle.state.specs.Sound.{sound}
-use Rattle.judging.specs.Judge.{arrivalRefusal, judgeArrived}
-use Rattle.judging.specs.Judgement.{judgementOf}
-use Rattle.judging.specs.declared.Judged.{Judged}
-use Rattle.judging.proofs.Judging.{arrived-tick, arrived-limits}
+use Rattle.judging.specs.Judge.{arrivalRefusal}
+use Rattle.judging.proofs.Judging.{arrived-tick}
 use Rattle.slave.specs.Ready.{Ready}
-use Rattle.slave.specs.Step.{stepOf}
 use Rattle.slave.proofs.Calling.{unsound-settings, unsound-parts, sound-parts, packet-cold, packet-refused, packet-steps}
 use Rattle.slave.proofs.way_of.Statement.{statement}
 use Rattle.slave.proofs.way_of.Tie as tie
@@ -24,11 +20,11 @@ kept c = sym (c .before .settings-kept .ensures) ∙ not-false _ (c .if1 .left)
 is-sound : (c : tie.Else2) → sound (c .before .before .before .before .before .before .args .s) ≡ true
 is-sound c = sound-parts (c .before .before .before .before .before .before .args .s) (kept (c .before .before)) (sym (c .before .parts-fit .ensures) ∙ not-false _ (c .if2 .left))
 
-arrived : (c : tie.Else3) → let a = c .before .before .before .before .before .before .before .before .args in arrivalRefusal (a .s .board .profile) (now (a .p)) (a .tick) ≡ 0
-arrived c = sym (c .before .arrival-refusal .ensures) ∙ c .if3 .left
+arrives : (c : tie.Else3) → let a = c .before .before .before .before .before .before .before .before .args in arrivalRefusal (a .s .board .profile) (now (a .p)) (a .tick) ≡ 0
+arrives c = sym (c .before .arrival-refusal .ensures) ∙ c .if3 .left
 
 ready : (c : tie.Else3) → Ready (c .before .before .before .before .before .before .before .before .args .s) (c .before .before .before .before .before .before .before .before .args .tick)
-ready c = record { is-sound = is-sound (c .before .before); in-second = arrived-tick _ _ _ (arrived c) }
+ready c = record { is-sound = is-sound (c .before .before); in-second = arrived-tick _ _ _ (arrives c) }
 
 settings-kept-requires : tie.Need-settings-kept-requires
 settings-kept-requires c κs = search needs
@@ -48,34 +44,11 @@ arrival-refusal-requires c κs = search needs
 returns-3 : tie.Need-returns-3
 returns-3 c = packet-refused _ _ _ (is-sound (c .before .before)) _ (c .before .arrival-refusal .ensures) (c .if3 .taken)
 
-judge-arrived-requires : tie.Need-judge-arrived-requires
-judge-arrived-requires c κs = search needs
-
-enum-known-k : tie.Need-enum-known-k
-enum-known-k c = search needs
-
-count-requires : tie.Need-count-requires
-count-requires c κs = ready (c .before .before .before .before .before)
-
-enum-known-t : tie.Need-enum-known-t
-enum-known-t c = search needs
-
-take-requires : tie.Need-take-requires
-take-requires c κs =
-    let e = sym (c .before .before .before .judge-arrived .ensures) ∙ ap judgementOf (c .before .t .given .1) in
-    (ready (c .before .before .before .before .before), arrived-limits _ _ _ _ e .pointer)
+arrived-requires : tie.Need-arrived-requires
+arrived-requires c κs = ready c
 
 returns-4 : tie.Need-returns-4
-unfolding stepOf
-returns-4 c =
-    let e = sym (c .before .before .before .before .judge-arrived .ensures ∙ refl) ∙ ap judgementOf (c .before .before .k .given .1) in
-    c .count .ensures ∙ packet-steps _ _ _ (is-sound (c .before .before .before .before .before .before .before .before)) (arrived (c .before .before .before .before .before .before)) _ (sym e)
-
-returns-5 : tie.Need-returns-5
-unfolding stepOf
-returns-5 c =
-    let e = sym (c .before .before .before .before .judge-arrived .ensures) ∙ ap judgementOf (c .before .before .t .given .1) in
-    c .take .ensures ∙ packet-steps _ _ _ (is-sound (c .before .before .before .before .before .before .before .before)) (arrived (c .before .before .before .before .before .before)) _ (sym e)
+returns-4 c = c .arrived .ensures ∙ packet-steps _ _ _ (is-sound (c .before .before .before)) (arrives (c .before)) _ refl
 
 pub way-of-spec : {M : Type 1} → statement M
 way-of-spec =
@@ -87,10 +60,5 @@ way-of-spec =
     returns-2
     arrival-refusal-requires
     returns-3
-    judge-arrived-requires
-    enum-known-k
-    count-requires
-    enum-known-t
-    take-requires
-    returns-4
-    returns-5)
+    arrived-requires
+    returns-4)

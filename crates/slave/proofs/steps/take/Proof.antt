@@ -1,10 +1,12 @@
 -- `slave::steps::take` meets its contract.
 use borrow.Author.Needs.{needs}
 use mathlib.Core.Path.{_≡_, refl, sym, ap, _∙_}
-use Rattle.slave.specs.Answer.{optionOf, noticeOf, markOf}
+use mathlib.Core.Bool.{cond}
+use lib.Dec.{eqb}
+use Prim.Native.Nat.{ℕ, _-_}
+use Rattle.slave.specs.Answer.{optionOf, noticeOf, Mark, untimed, unmarked, markOf}
+use Rattle.slave.specs.Step.{lockedAt, agrees}
 use Rattle.slave.proofs.Stepping.{takes}
-use Prim.Native.Nat.{ℕ}
-use Rattle.slave.specs.Step.{lockedAt}
 use Rattle.slave.proofs.steps.take.Statement.{statement}
 use Rattle.slave.proofs.steps.take.Tie as tie
 
@@ -39,10 +41,11 @@ place-of-requires : tie.Need-place-of-requires
 place-of-requires c κs = search needs
 
 returns : tie.Need-returns
-returns c =
+returns c = λ tick m.
     let a = c .before .before .before .before .before .before .before .before .before .before .before .before .before .args in
-    takes (a .s) (a .t) (a .tick) _ refl (noticeOf (c .before .before .before .notice-taken .result)) (markOf (c .before .mark-taken .result)) (c .before .before .before .before .before .before .before .index-before .result) (c .before .before .before .before .before .before .index-after .result) (c .before .before .turned .result) (optionOf (c .place-of .result)) _ (c .before .before .before .before .locked-at .result)
-    (c .before .before .before .notice-taken .ensures) (c .before .mark-taken .ensures) (c .before .before .before .before .before .before .before .index-before .ensures) (c .before .before .before .before .before .before .index-after .ensures) (c .before .before .turned .ensures) (c .place-of .ensures) refl
+    let label : ℕ = a .s .board .n - 1 - a .t .pointer in
+    takes (a .s) (a .t) tick _ refl (noticeOf (c .before .before .before .notice-taken .result)) (markOf (c .before .mark-taken .result)) (c .before .before .before .before .before .before .before .index-before .result) (c .before .before .before .before .before .before .index-after .result) (c .before .before .turned .result) (optionOf (c .place-of .result)) _ (c .before .before .before .before .locked-at .result)
+    (c .before .before .before .notice-taken .ensures) (c .before .mark-taken .ensures ∙ ap (λ (x : Mark). cond (agrees (a .s .count) label) x (cond (eqb label 0) untimed unmarked)) m) (c .before .before .before .before .before .before .before .index-before .ensures) (c .before .before .before .before .before .before .index-after .ensures) (c .before .before .turned .ensures) (c .place-of .ensures) refl
     (c .before .before .before .before .locked-at .ensures ∙ ap (λ (x : ℕ). lockedAt x (c .before .before .before .before .before .before .index-after .result)) (c .before .before .before .before .before .next-label .ensures))
 
 pub take-spec : {M : Type 1} → statement M
