@@ -28,9 +28,13 @@ markText (due profile (released t)) = decimal (t .emission)
 abbrev pub reportText : Report → List ℕ
 reportText r = labelText (r .label) ++ (space ∷ []) ++ noticeText (r .notice) ++ (space ∷ []) ++ markText (r .mark) ++ newline ∷ []
 
+-- a word and its number at the end of a line
+abbrev pub numbered : List ℕ → ℕ → List ℕ
+numbered word k = word ++ decimal k ++ newline ∷ []
+
 -- a refusal, which is also all that bad or short settings print
 abbrev pub refusalText : ℕ → List ℕ
-refusalText k = refusedWord ++ decimal k ++ newline ∷ []
+refusalText k = numbered refusedWord k
 
 abbrev pub replyText : Reply Report → List ℕ
 replyText (refused k) = refusalText k
@@ -41,7 +45,7 @@ unfoldable pub lineOf : ℕ → Reply Report → List ℕ
 lineOf number r = decimal number ++ (space ∷ []) ++ replyText r
 
 unfoldable pub siteLine : ℕ → ℕ → List ℕ
-siteLine site n = siteWord ++ decimal site ++ cadenceWord ++ decimal n ++ newline ∷ []
+siteLine site n = siteWord ++ decimal site ++ numbered cadenceWord n
 
 unfoldable pub endLine : ℕ → List ℕ
-endLine count = endWord ++ decimal count ++ newline ∷ []
+endLine count = numbered endWord count

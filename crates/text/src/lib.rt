@@ -11,8 +11,8 @@ ghost use Prim.Native.Nat.{_+_, _-_, _≤_};
 ghost use lib.ListN.{length};
 ghost use Rattle.slave.specs.Answer.{optionOf, noticeOf, markOf, reportOf, answerOf};
 ghost use Rattle.text.specs.Decimal.{decimal, mostDigits};
-ghost use Rattle.text.specs.Line.{labelText, noticeText, markText, reportText, refusalText, lineOf, siteLine, endLine};
-ghost use Rattle.text.specs.Rooms.{columnRoom, markRoom, reportRoom, refusalRoom, lineRoom, siteRoom, endRoom};
+ghost use Rattle.text.specs.Line.{labelText, noticeText, markText, reportText, numbered, refusalText, lineOf, siteLine, endLine};
+ghost use Rattle.text.specs.Rooms.{columnRoom, markRoom, reportRoom, numberedRoom, refusalRoom, lineRoom, siteRoom, endRoom};
 ghost use Rattle.text.specs.Puts.{Puts, Placed};
 
 // The fixed words: specs/Words.antt.
@@ -41,13 +41,16 @@ const MARK_ROOM: usize = COLUMN_ROOM;
 
 const REPORT_ROOM: usize = COLUMN_ROOM + 1 + COLUMN_ROOM + 1 + MARK_ROOM + 1;
 
-pub const REFUSAL_ROOM: usize = REFUSED_WORD.len() + MOST_DIGITS + 1;
+// Behind a word that ends a line: its number, and the line's end.
+const NUMBER_ROOM: usize = MOST_DIGITS + 1;
+
+pub const REFUSAL_ROOM: usize = REFUSED_WORD.len() + NUMBER_ROOM;
 
 pub const LINE_ROOM: usize = MOST_DIGITS + 1 + REPORT_ROOM;
 
-pub const SITE_ROOM: usize = SITE_WORD.len() + MOST_DIGITS + CADENCE_WORD.len() + MOST_DIGITS + 1;
+pub const SITE_ROOM: usize = SITE_WORD.len() + MOST_DIGITS + CADENCE_WORD.len() + NUMBER_ROOM;
 
-pub const END_ROOM: usize = END_WORD.len() + MOST_DIGITS + 1;
+pub const END_ROOM: usize = END_WORD.len() + NUMBER_ROOM;
 
 // How many digits a number has.
 fn places(n: u64) -> usize
@@ -156,6 +159,16 @@ fn put_report(out: &mut [u8], at: usize, c: Counted) -> usize
     put_byte(out, fifth, b'\n')
 }
 
+// A word and its number at the end of a line.
+fn put_numbered(out: &mut [u8], at: usize, word: &[u8], n: u64) -> usize
+    requires { ⌜ at + numberedRoom (now word) ≤ length (now out) ⌝ }
+    ensures { λ r. ⌜ Puts (numberedRoom (now (word .entry))) (now (out .entry)) at (numbered (now (word .entry)) n) (now (out .exit)) r ⌝ }
+{
+    let number = put_word(out, at, word);
+    let end = put_decimal(out, number, n);
+    put_byte(out, end, b'\n')
+}
+
 // How many bytes there are from byte `at` on.
 fn room_from(len: usize, at: usize) -> usize
     ensures { λ r. ⌜ r ≡ len - at ⌝ }
@@ -173,9 +186,7 @@ pub fn put_refusal(out: &mut [u8], at: usize, k: u8) -> usize
     if room_from(out.len(), at) < REFUSAL_ROOM {
         return at;
     }
-    let word = put_word(out, at, &REFUSED_WORD);
-    let number = put_decimal(out, word, k as u64);
-    put_byte(out, number, b'\n')
+    put_numbered(out, at, &REFUSED_WORD, k as u64)
 }
 
 // The line of a record that was answered.
@@ -188,7 +199,7 @@ pub fn put_line(out: &mut [u8], at: usize, number: u64, answer: Answer) -> usize
     let end = put_decimal(out, at, number);
     let column = put_byte(out, end, b' ');
     match answer {
-        Answer::Refused(k) => put_refusal(out, column, k),
+        Answer::Refused(k) => put_numbered(out, column, &REFUSED_WORD, k as u64),
         Answer::Counted(c) => put_report(out, column, c),
     }
 }
@@ -200,11 +211,9 @@ pub fn put_site(out: &mut [u8], at: usize, site: u16, n: u16) -> usize
     if room_from(out.len(), at) < SITE_ROOM {
         return at;
     }
-    let word = put_word(out, at, &SITE_WORD);
-    let number = put_decimal(out, word, site as u64);
-    let second = put_word(out, number, &CADENCE_WORD);
-    let end = put_decimal(out, second, n as u64);
-    put_byte(out, end, b'\n')
+    let number = put_word(out, at, &SITE_WORD);
+    let end = put_decimal(out, number, site as u64);
+    put_numbered(out, end, &CADENCE_WORD, n as u64)
 }
 
 // The end line.
@@ -214,7 +223,5 @@ pub fn put_end(out: &mut [u8], at: usize, count: u64) -> usize
     if room_from(out.len(), at) < END_ROOM {
         return at;
     }
-    let word = put_word(out, at, &END_WORD);
-    let number = put_decimal(out, word, count);
-    put_byte(out, number, b'\n')
+    put_numbered(out, at, &END_WORD, count)
 }

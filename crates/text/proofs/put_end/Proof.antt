@@ -1,6 +1,6 @@
 -- `text::put_end` meets its contract.
 use borrow.Author.Needs.{needs}
-use Rattle.text.proofs.Putting.{then, puts-placed, none-placed}
+use Rattle.text.proofs.Putting.{puts-placed, none-placed}
 use Rattle.text.specs.Line.{endLine}
 use Rattle.text.proofs.put_end.Statement.{statement}
 use Rattle.text.proofs.put_end.Tie as tie
@@ -11,24 +11,18 @@ room-from-requires c κs = search needs
 returns : tie.Need-returns
 returns c = none-placed (search needs)
 
-slice-aggregate-put-word : tie.Need-slice-aggregate-put-word
-slice-aggregate-put-word c = search needs
+slice-aggregate-put-numbered : tie.Need-slice-aggregate-put-numbered
+slice-aggregate-put-numbered c = search needs
 
-put-word-requires : tie.Need-put-word-requires
-put-word-requires c κs = search needs
-
-put-decimal-requires : tie.Need-put-decimal-requires
-put-decimal-requires c κs = search needs
-
-put-byte-requires : tie.Need-put-byte-requires
-put-byte-requires c κs = search needs
+put-numbered-requires : tie.Need-put-numbered-requires
+put-numbered-requires c κs = search needs
 
 same-length : tie.Need-same-length
 same-length c = search needs
 
 returns-2 : tie.Need-returns-2
 unfolding endLine
-returns-2 c = puts-placed (search needs) (then (then (c .before .before .before .before .before .before .before .before .before .before .put-word .ensures) (c .before .before .before .before .before .before .put-decimal .ensures)) (c .before .before .put-byte .ensures))
+returns-2 c = puts-placed (search needs) (c .before .before .put-numbered .ensures)
 
 pub put-end-spec : {M : Type 1} → statement M
 put-end-spec =
@@ -36,9 +30,7 @@ put-end-spec =
     (tie.spec
     room-from-requires
     returns
-    slice-aggregate-put-word
-    put-word-requires
-    put-decimal-requires
-    put-byte-requires
+    slice-aggregate-put-numbered
+    put-numbered-requires
     same-length
     returns-2)

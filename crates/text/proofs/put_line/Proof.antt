@@ -1,7 +1,7 @@
 -- `text::put_line` meets its contract.
 use borrow.Author.Needs.{needs}
 use native.Mathlib.Omega.{arith}
-use Rattle.text.proofs.Putting.{then, wider, puts-placed, placed-puts, none-placed}
+use Rattle.text.proofs.Putting.{then, wider, puts-placed, none-placed}
 use Rattle.text.specs.Line.{lineOf}
 use Rattle.text.proofs.put_line.Statement.{statement}
 use Rattle.text.proofs.put_line.Tie as tie
@@ -21,8 +21,14 @@ put-byte-requires c κs = search needs
 enum-known-answer : tie.Need-enum-known-answer
 enum-known-answer c = search needs
 
-put-refusal-requires : tie.Need-put-refusal-requires
-put-refusal-requires c κs = search needs
+slice-aggregate-put-numbered : tie.Need-slice-aggregate-put-numbered
+slice-aggregate-put-numbered c = search needs
+
+cast-put-numbered : tie.Need-cast-put-numbered
+cast-put-numbered c = search needs
+
+put-numbered-requires : tie.Need-put-numbered-requires
+put-numbered-requires c κs = search needs
 
 enum-known-answer-2 : tie.Need-enum-known-answer-2
 enum-known-answer-2 c = search needs
@@ -35,14 +41,18 @@ same-length c = search needs
 
 returns-2 : tie.Need-returns-2
 unfolding lineOf
-returns-2 c = puts-placed (search needs) (rw (c .before .before .before .before .before .answer .given .1) (wider (omega arith) (then (then (c .before .before .before .before .before .before .before .before .before .before .before .before .before .put-decimal .ensures) (c .before .before .before .before .before .before .before .before .before .put-byte .ensures)) (placed-puts (c .before .before .put-refusal .ensures) (search needs) (search needs)))))
+returns-2 c =
+    let number = then (c .before .before .before .before .before .before .before .before .before .before .before .before .before .before .put-decimal .ensures) (c .before .before .before .before .before .before .before .before .before .before .put-byte .ensures) in
+    puts-placed (search needs) (rw (c .before .before .before .before .before .before .answer .given .1) (wider (omega arith) (then number (c .before .before .put-numbered .ensures))))
 
 same-length-2 : tie.Need-same-length-2
 same-length-2 c = search needs
 
 returns-3 : tie.Need-returns-3
 unfolding lineOf
-returns-3 c = puts-placed (search needs) (rw (c .before .before .before .before .before .answer2 .given .1) (then (then (c .before .before .before .before .before .before .before .before .before .before .before .before .before .put-decimal .ensures) (c .before .before .before .before .before .before .before .before .before .put-byte .ensures)) (c .before .before .put-report .ensures)))
+returns-3 c =
+    let number = then (c .before .before .before .before .before .before .before .before .before .before .before .before .before .put-decimal .ensures) (c .before .before .before .before .before .before .before .before .before .put-byte .ensures) in
+    puts-placed (search needs) (rw (c .before .before .before .before .before .answer2 .given .1) (then number (c .before .before .put-report .ensures)))
 
 pub put-line-spec : {M : Type 1} → statement M
 put-line-spec =
@@ -53,7 +63,9 @@ put-line-spec =
     put-decimal-requires
     put-byte-requires
     enum-known-answer
-    put-refusal-requires
+    slice-aggregate-put-numbered
+    cast-put-numbered
+    put-numbered-requires
     enum-known-answer-2
     put-report-requires
     same-length

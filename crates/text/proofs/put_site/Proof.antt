@@ -20,24 +20,18 @@ put-word-requires c κs = search needs
 put-decimal-requires : tie.Need-put-decimal-requires
 put-decimal-requires c κs = search needs
 
-slice-aggregate-put-word-2 : tie.Need-slice-aggregate-put-word-2
-slice-aggregate-put-word-2 c = search needs
+slice-aggregate-put-numbered : tie.Need-slice-aggregate-put-numbered
+slice-aggregate-put-numbered c = search needs
 
-put-word-requires-2 : tie.Need-put-word-requires-2
-put-word-requires-2 c κs = search needs
-
-put-decimal-requires-2 : tie.Need-put-decimal-requires-2
-put-decimal-requires-2 c κs = search needs
-
-put-byte-requires : tie.Need-put-byte-requires
-put-byte-requires c κs = search needs
+put-numbered-requires : tie.Need-put-numbered-requires
+put-numbered-requires c κs = search needs
 
 same-length : tie.Need-same-length
 same-length c = search needs
 
 returns-2 : tie.Need-returns-2
 unfolding siteLine
-returns-2 c = puts-placed (search needs) (then (then (then (then (c .before .before .before .before .before .before .before .before .before .before .before .before .before .before .before .before .before .before .before .put-word .ensures) (c .before .before .before .before .before .before .before .before .before .before .before .before .before .before .before .put-decimal .ensures)) (c .before .before .before .before .before .before .before .before .before .before .put-word2 .ensures)) (c .before .before .before .before .before .before .put-decimal2 .ensures)) (c .before .before .put-byte .ensures))
+returns-2 c = puts-placed (search needs) (then (then (c .before .before .before .before .before .before .before .before .before .before .before .put-word .ensures) (c .before .before .before .before .before .before .before .put-decimal .ensures)) (c .before .before .put-numbered .ensures))
 
 pub put-site-spec : {M : Type 1} → statement M
 put-site-spec =
@@ -48,9 +42,7 @@ put-site-spec =
     slice-aggregate-put-word
     put-word-requires
     put-decimal-requires
-    slice-aggregate-put-word-2
-    put-word-requires-2
-    put-decimal-requires-2
-    put-byte-requires
+    slice-aggregate-put-numbered
+    put-numbered-requires
     same-length
     returns-2)
