@@ -12,7 +12,6 @@ use Rattle.times.specs.Release.{inSecond}
 use Rattle.state.specs.Profile.{second}
 use Rattle.state.specs.Sound.{sound}
 use Rattle.state.specs.declared.Slave.{Slave}
-use Rattle.judging.specs.Judge.{arrivalRefusal}
 use Rattle.judging.proofs.Judging.{arrival-3}
 use Rattle.slave.specs.Answer.{left}
 use Rattle.slave.specs.Calls.{packetOf}
