@@ -4,6 +4,7 @@ use addressing::Settings;
 use addressing::Walked;
 use cadence::LabelAnswer;
 use slave::Way;
+use state::Count;
 use state::Slave;
 use times::Periods;
 use times::Steps;
@@ -125,14 +126,17 @@ pub extern "C" fn probe_packet(s: Slave, p: &[u8], tick: u32) -> Step
         Way::Short(q) => {
             let board = s.board;
             let settings = s.settings;
-            let count = q.count;
             let waiting = s.waiting;
             let answer = q.answer;
             return Step {
                 slave: Slave {
                     board: board,
                     settings: settings,
-                    count: count,
+                    count: Count {
+                        phase: s.count.phase,
+                        next: q.next,
+                        index: s.count.index,
+                    },
                     waiting: waiting,
                 },
                 reply: replies::reply_of(answer),

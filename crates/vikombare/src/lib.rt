@@ -7,6 +7,7 @@ use replies::PacketReply;
 use slave::Shifted;
 use slave::Way;
 use state::Board;
+use state::Count;
 use state::Slave;
 use times::Periods;
 use times::Steps;
@@ -120,7 +121,7 @@ pub extern "C" fn vikombare_packet(s: &mut Slave, p: &[u8], tick: Tick) -> Packe
     let t = tick_on(s.board.profile, tick);
     match slave::way_of(*s, p, t) {
         Way::Short(q) => {
-            s.count = q.count;
+            s.count.next = q.next;
             return replies::reply_of(q.answer);
         }
         Way::Moved(m) => {
@@ -148,14 +149,17 @@ pub extern "C" fn vikombare_numbers(s: Slave, p: &[u8], tick: Periods, x: Number
         Way::Short(q) => {
             let board = s.board;
             let settings = s.settings;
-            let count = q.count;
             let waiting = s.waiting;
             let answer = q.answer;
             return Step {
                 slave: Slave {
                     board: board,
                     settings: settings,
-                    count: count,
+                    count: Count {
+                        phase: s.count.phase,
+                        next: q.next,
+                        index: s.count.index,
+                    },
                     waiting: waiting,
                 },
                 reply: replies::reply_of(answer),

@@ -23,7 +23,7 @@ reply-of-requires : tie.Need-reply-of-requires
 reply-of-requires c κs = search needs
 
 returns : tie.Need-returns
-returns c = ap (flatLeft _) (c .reply-of .ensures) ∙ told (c .before .before .before .before .before .before .before .before) _ (c .before .before .before .before .before .before .q .given .1)
+returns c = ap (flatLeft _) (c .reply-of .ensures) ∙ told (c .before .before .before .before .before .before .before) _ (c .before .before .before .before .before .q .given .1)
 
 enum-known-m : tie.Need-enum-known-m
 enum-known-m c = search needs

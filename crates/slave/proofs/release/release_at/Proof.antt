@@ -29,20 +29,20 @@ second-of-requires : tie.Need-second-of-requires
 second-of-requires c κs = search needs
 
 times-in-requires : tie.Need-times-in-requires
-times-in-requires c κs = 
+times-in-requires c κs =
     let s = c .before in
     let a = s .args in
     limits-hold (a .profile) (a .sts) (a .md) (a .od) (a .tad) (a .tick) (s .pre .0) (c .second-of .ensures) (toZ-ofZ (s .fits .od))
 
 returns : tie.Need-returns
-returns c = 
+returns c =
     let a = c .before .before .before .before .before .before .args in
     let t = c .before .before .before .before .times-in .result in
     let w : toZ w64 (ofZ w64 (t .wait)) ≡ t .wait = search (needs, c .before .struct-told .given) in
     release-late (a .profile) (a .sts) (a .md) (a .od) (a .tad) (a .tick) 1 (c .before .before .before .if1 .taken) (plainTimes t) (reckoned (c .before .before .before .before)) (sym (ap negative w) ∙ c .if2 .taken)
 
 returns-2 : tie.Need-returns-2
-returns-2 c = 
+returns-2 c =
     let a = c .before .before .before .before .before .before .before .args in
     let t = c .before .before .before .before .before .times-in .result in
     let w : toZ w64 (ofZ w64 (t .wait)) ≡ t .wait = search (needs, c .struct-told2 .given) in
@@ -50,14 +50,14 @@ returns-2 c =
     (ap (λ (z : ℤ). record { reference = t .reference; emission = t .emission; modulation = t .modulation; wait = z }) w ∙ reckoned (c .before .before .before .before .before)) (c .before .if2 .left)
 
 returns-3 : tie.Need-returns-3
-returns-3 c = 
+returns-3 c =
     let a = c .before .before .before .before .before .before .args in
     let t = c .before .before .before .before .times-in .result in
     let w : toZ w64 (ofZ w64 (t .wait)) ≡ t .wait = search (needs, c .before .struct-told3 .given) in
     release-late (a .profile) (a .sts) (a .md) (a .od) (a .tad) (a .tick) 0 (dvb (c .before .before .before)) (plainTimes t) (reckoned (c .before .before .before .before)) (sym (ap negative w) ∙ c .if3 .taken)
 
 returns-4 : tie.Need-returns-4
-returns-4 c = 
+returns-4 c =
     let a = c .before .before .before .before .before .before .before .args in
     let t = c .before .before .before .before .before .times-in .result in
     let w : toZ w64 (ofZ w64 (t .wait)) ≡ t .wait = search (needs, c .struct-told4 .given) in

@@ -15,7 +15,7 @@ place-of-requires : tie.Need-place-of-requires
 place-of-requires c κs = search needs
 
 returns : tie.Need-returns
-returns c = 
+returns c =
     let a = c .before .before .args in
     λ i. given (record { label = some (a .label); notice = c .before .notice-by .ensures i; turn = false; mark = markOf (a .mark); place = c .place-of .ensures i })
 

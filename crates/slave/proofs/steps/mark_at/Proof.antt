@@ -32,7 +32,7 @@ returns : tie.Need-returns
 returns c = mark-none _ _ (sym (c .before .on-mark .ensures) ∙ not-true _ (c .if1 .taken))
 
 release-at-requires : tie.Need-release-at-requires
-release-at-requires c κs = 
+release-at-requires c κs =
     let r = c .before .before .before .before .before .before .before .before .before in
     let s = r .args .s in
     let k = pending-kept s (r .pre .is-sound) (marked (s .count) (on (c .before .before .before .before .before)) .0) (c .before .before .before .if2 .taken) (r .args .tick) (r .pre .in-second) in
@@ -41,7 +41,7 @@ release-at-requires c κs =
 
 returns-2 : tie.Need-returns-2
 unfolding releaseAt
-returns-2 c = 
+returns-2 c =
     let a = c .before .before .before .before .before .before .before .before .before .before .args in
     mark-due (a .s) (a .tick) (on (c .before .before .before .before .before .before)) (c .before .before .before .before .if2 .taken) _
     (c .release-at .ensures ∙ ap (λ (z : ℤ). due (a .s .board .profile) (dueOf (second (a .s .board .profile)) (a .s .waiting .sts) (a .s .waiting .md) z (a .s .board .tad) (a .tick))) (od-read (c .before)))
