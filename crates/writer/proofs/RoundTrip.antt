@@ -29,7 +29,7 @@ use Rattle.addressing.specs.Entries.{wellFormed}
 use Rattle.notice.specs.Mip.{individualAddressingLength, addressingField, throughCheck, noticeIn}
 use Rattle.writer.specs.Writable.{Writable}
 use Rattle.notice.specs.Reader.{readRefusal, readOf}
-use Rattle.writer.specs.Writer.{writeRefusal, headOf, fieldsOf, stuffing, packetOf, writeOf}
+use Rattle.writer.specs.Writer.{writeRefusal, headOf, fieldsOf, stuffing, mipOf, writeOf}
 use Rattle.notice.specs.declared.Notice.{Notice}
 use Rattle.notice.proofs.Sound.{Sound, accepted-sound, sound-reads, reads-sound}
 use Rattle.writer.proofs.Writing.{fields-length, length-stuffing, judged, write-fits, write-none}
@@ -56,34 +56,34 @@ bits-back true r h = omega arith
 bits-back false r h = omega arith
 
 module _ (n : Notice) (f : List ℕ) (space : ℕ) (w : Writable space n f) where
-  packet-parts : packetOf n f ≡ sealed (fieldsOf n f) ++ stuffing (longestAddressing - length f)
-  unfolding packetOf
+  packet-parts : mipOf n f ≡ sealed (fieldsOf n f) ++ stuffing (longestAddressing - length f)
+  unfolding mipOf
   packet-parts = refl
 
   sealed-end : length (sealed (fieldsOf n f)) ≡ 25 + length f
   sealed-end = sealed-length (fieldsOf n f) ∙ omega (arith, fields-length n f)
 
-  packet-length : length (packetOf n f) ≡ packetLength
+  packet-length : length (mipOf n f) ≡ packetLength
   packet-length =
       ap length packet-parts
       ∙ length-append (sealed (fieldsOf n f)) (stuffing (longestAddressing - length f))
       ∙ omega (arith, sealed-end, length-stuffing (longestAddressing - length f), w .short)
 
-  packet-check : register (take (25 + length f) (packetOf n f)) ≡ 0
+  packet-check : register (take (25 + length f) (mipOf n f)) ≡ 0
   packet-check =
       ap (λ (s : List ℕ). register (take (25 + length f) s)) packet-parts
       ∙ ap register (take-at (sealed (fieldsOf n f)) (stuffing (longestAddressing - length f)) (25 + length f) sealed-end)
       ∙ leaves-zero (fieldsOf n f)
 
-  packet-field : take (length f) (drop 21 (packetOf n f)) ≡ f
-  unfolding packetOf fieldsOf headOf
+  packet-field : take (length f) (drop 21 (mipOf n f)) ≡ f
+  unfolding mipOf fieldsOf headOf
   packet-field =
       ap (take (length f)) (append-assoc f (bytes32 (register (fieldsOf n f))) (stuffing (longestAddressing - length f)))
       ∙ take-at f (bytes32 (register (fieldsOf n f)) ++ stuffing (longestAddressing - length f)) (length f) refl
 
   module _ (e : writeRefusal space n f ≡ 0) (k : Fits n) where
-    packet-notice : noticeIn (packetOf n f) ≡ n
-    unfolding packetOf fieldsOf headOf
+    packet-notice : noticeIn (mipOf n f) ≡ n
+    unfolding mipOf fieldsOf headOf
     packet-notice =
         let j = judged space n f e in
         let c : (0x10 + n .continuity) % 16 ≡ n .continuity = omega (arith, w .counter) in
@@ -97,8 +97,8 @@ module _ (n : Notice) (f : List ℕ) (space : ℕ) (w : Writable space n f) wher
           tps = spelled32 (n .tps) (k .tps) i;
         }
 
-    packet-sound : Sound (packetOf n f)
-    unfolding packetOf fieldsOf headOf
+    packet-sound : Sound (mipOf n f)
+    unfolding mipOf fieldsOf headOf
     packet-sound =
         let j = judged space n f e in
         record {
@@ -122,20 +122,20 @@ module _ (out : List ℕ) (n : Notice) (f : List ℕ) (e : writeRefusal (length 
   fitting : Writable (length out) n f
   fitting = write-fits (length out) n f e
 
-  left : take packetLength (writeOf out n f .bytes) ≡ packetOf n f
+  left : take packetLength (writeOf out n f .bytes) ≡ mipOf n f
   unfolding writeOf
   left =
-      ap (λ (o : Output). take packetLength (o .bytes)) (given-output _ out (packetOf n f ++ drop packetLength out) e)
-      ∙ take-at (packetOf n f) (drop packetLength out) packetLength (packet-length n f (length out) fitting)
+      ap (λ (o : Output). take packetLength (o .bytes)) (given-output _ out (mipOf n f ++ drop packetLength out) e)
+      ∙ take-at (mipOf n f) (drop packetLength out) packetLength (packet-length n f (length out) fitting)
 
   pub written-read : readOf (take packetLength (writeOf out n f .bytes)) ≡ given n
   written-read =
       ap readOf left
-      ∙ sound-reads (packetOf n f) (packet-sound n f (length out) fitting e k)
+      ∙ sound-reads (mipOf n f) (packet-sound n f (length out) fitting e k)
       ∙ ap given (packet-notice n f (length out) fitting e k)
 
   pub written-addressing : addressingField (take packetLength (writeOf out n f .bytes)) ≡ f
-  unfolding packetOf fieldsOf headOf
+  unfolding mipOf fieldsOf headOf
   written-addressing = ap addressingField left ∙ packet-field n f (length out) fitting
 
 -- ---- read, then written
@@ -187,13 +187,13 @@ module _ (s : List ℕ) (n : Notice) (e : readOf s ≡ given n) (bytes : Bytes s
           }
 
   -- where the stuffing is 0xFF, the packet that they make is the packet that was read
-  pub same-packet : drop (25 + individualAddressingLength s) s ≡ stuffing (longestAddressing - individualAddressingLength s) → packetOf n (addressingField s) ≡ s
-  unfolding packetOf
+  pub same-packet : drop (25 + individualAddressingLength s) s ≡ stuffing (longestAddressing - individualAddressingLength s) → mipOf n (addressingField s) ≡ s
+  unfolding mipOf
   same-packet rest =
-      subst (λ (m : Notice). packetOf m (addressingField s) ≡ s) (reads-sound s n e .1)
+      subst (λ (m : Notice). mipOf m (addressingField s) ≡ s) (reads-sound s n e .1)
       whole
     where
-      whole : packetOf (noticeIn s) (addressingField s) ≡ s
+      whole : mipOf (noticeIn s) (addressingField s) ≡ s
       whole =
           let m : ℕ = 21 + individualAddressingLength s in
           let count : m + 4 ≡ 25 + individualAddressingLength s = omega arith in
@@ -208,7 +208,7 @@ module _ (s : List ℕ) (n : Notice) (e : readOf s ≡ given n) (bytes : Bytes s
       → writeOf out n (addressingField s) ≡ record { reply = given tt; bytes = s ++ drop packetLength out }
   unfolding writeOf
   read-written out h rest =
-      given-output _ out (packetOf n (addressingField s) ++ drop packetLength out) (rewrite-accepted (length out) h)
+      given-output _ out (mipOf n (addressingField s) ++ drop packetLength out) (rewrite-accepted (length out) h)
       ∙ ap (λ (x : List ℕ). record { reply = given tt; bytes = x ++ drop packetLength out }) (same-packet rest)
 
 -- ---- one bit

@@ -50,12 +50,12 @@ abbrev pub stuffing : ℕ → List ℕ
 stuffing k = replicate k 0xFF
 
 -- the whole packet
-unfoldable pub packetOf : Notice → List ℕ → List ℕ
-packetOf n field = sealed (fieldsOf n field) ++ stuffing (longestAddressing - length field)
+unfoldable pub mipOf : Notice → List ℕ → List ℕ
+mipOf n field = sealed (fieldsOf n field) ++ stuffing (longestAddressing - length field)
 
 -- what a write leaves: a number and the output as it was, or the packet, and all bytes after it kept
 unfoldable pub writeOf : List ℕ → Notice → List ℕ → Output
-writeOf out n field = filled (writeRefusal (length out) n field) out (packetOf n field ++ drop packetLength out)
+writeOf out n field = filled (writeRefusal (length out) n field) out (mipOf n field ++ drop packetLength out)
 
 -- an answer, and the bytes that it leaves
 abbrev pub outputOf : WriteOutcome → List ℕ → Output
