@@ -76,7 +76,7 @@ static void feed_dvb(vikombare_slave *slave, const uint8_t *packet, uint32_t tic
 static void print_change(const char *what, vikombare_change change)
 {
     static const char *const phases[] = {"cold", "hunting", "locked"};
-    printf("%s: number %u, %s, next label %u\n", what, change.number, phases[change.slave.phase], change.slave.next);
+    printf("%s: number %u, %s, next label %u\n", what, change.number, phases[change.slave.count.phase], change.slave.count.next);
 }
 
 static void dvb_board(void)
@@ -121,8 +121,8 @@ static void a110_board(void)
     null_packet(null);
     vikombare_change change = vikombare_a110_start(624, SITE, (vikombare_periods){1000});
     print_change("A/110 start", change);
-    vikombare_step step = vikombare_numbers(change.slave, null, PACKET, (vikombare_periods){19000000}, 0, (vikombare_periods){19392657},
-                                            (vikombare_periods){63740}, -32768, 0);
+    vikombare_numbers_notice notice = {.pointer = 0, .sts = {19392657}, .md = {63740}, .od = -32768, .index = 0};
+    vikombare_step step = vikombare_numbers(change.slave, null, PACKET, (vikombare_periods){19000000}, notice);
     print_reply(step.reply);
     print_reply(vikombare_packet(&step.slave, null, PACKET, vikombare_a110_tick((vikombare_periods){5})));
 }

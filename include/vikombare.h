@@ -28,7 +28,7 @@
  *   11  STS or MD is a whole second or more
  *   12  the pointer is not below n; the index is not 0 to 19 or 255
  *   13  MD + OD is not in 0 to a second - 1; in profile 1 also MD + OD + TAD not in 1 to a second - 1. OD is the one in force once the notice is taken
- *   14  (a mark that is late: see VIKOMBARE_LATE)
+ *   14  (a mark that is late: mark.number, see VIKOMBARE_LATE)
  *   15  the settings are outside the limits; or the slave handed in is cold, or none that an accepted call gives
  *   16  the saved block's shape, check value, phase or ranges; a pending notice in it that 13 refuses
  *   17  a sound block, but of another site, profile, n or TAD
@@ -84,23 +84,43 @@ static inline vikombare_tick vikombare_a110_tick(vikombare_periods arrival)
     return tick;
 }
 
+/* The settings of a start. */
+typedef struct {
+    uint8_t profile; /* VIKOMBARE_DVB or VIKOMBARE_A110 */
+    uint16_t n;      /* packets in a cadence */
+    uint16_t site;
+    uint32_t tad;    /* transmitter and antenna delay, in the profile's unit */
+} vikombare_board;
+
+/* The settings in force: each from the last notice taken that gave it, else 0. */
+typedef struct {
+    int16_t od;        /* offset delay, in the profile's unit */
+    int32_t frequency; /* frequency offset, in Hz */
+    uint16_t power;    /* in 0.1 dBm */
+} vikombare_settings;
+
+/* Where a slave stands in its cadence. */
+typedef struct {
+    uint8_t phase; /* 0 cold, 1 hunting, 2 locked */
+    uint16_t next; /* label of the next packet */
+    uint8_t index; /* index of the next mark, 0 to 19, or 255: unknown */
+} vikombare_count;
+
+/* The notice that waits for the next mark. */
+typedef struct {
+    uint8_t pending; /* 1 where one waits */
+    uint32_t sts;    /* in the profile's unit */
+    uint32_t md;     /* in the profile's unit */
+} vikombare_waiting;
+
 /* A slave. Copy it, keep it, read it; only the calls below change it. One that was damaged, or that lies in memory which kept what it had at a reset, is
  * safe to hand in: it counts as cold (15), unless its parts are by chance ones that an accepted call gives. A cold slave stays cold until a start or a resume
  * gives another. */
 typedef struct {
-    uint8_t phase;     /* 0 cold, 1 hunting, 2 locked */
-    uint8_t profile;   /* VIKOMBARE_DVB or VIKOMBARE_A110 */
-    uint16_t n;        /* packets in a cadence */
-    uint16_t site;
-    uint32_t tad;      /* transmitter and antenna delay, in the profile's unit */
-    int16_t od;        /* offset delay in force, in the profile's unit: from the last notice taken that gave one, else 0 */
-    int32_t frequency; /* frequency offset in force, in Hz: likewise */
-    uint16_t power;    /* power in force, in 0.1 dBm: likewise */
-    uint16_t next;     /* label of the next packet */
-    uint8_t pending;   /* 1 where a notice waits for the next mark */
-    uint8_t index;     /* index of the next mark, 0 to 19, or 255: unknown */
-    uint32_t sts;      /* of the notice that waits, in the profile's unit */
-    uint32_t md;       /* of the notice that waits, in the profile's unit */
+    vikombare_board board;
+    vikombare_settings settings;
+    vikombare_count count;
+    vikombare_waiting waiting;
 } vikombare_slave;
 
 /* What a start, a gap or a resume leaves. */
@@ -137,6 +157,7 @@ enum {
 
 typedef struct {
     uint8_t kind;
+    uint8_t number; /* 14 where it is late, else 0 */
     union {
         vikombare_dvb_times dvb;   /* where kind is VIKOMBARE_DVB_RELEASED */
         vikombare_a110_times a110; /* where kind is VIKOMBARE_A110_RELEASED */
@@ -170,6 +191,15 @@ typedef struct {
     vikombare_reply reply;
 } vikombare_step;
 
+/* What a numbers notice carries, profile 1. */
+typedef struct {
+    uint16_t pointer;      /* packets between this one and the next mark; 0: the next packet is the mark */
+    vikombare_periods sts; /* the mark's time after the pulse at the adapter */
+    vikombare_periods md;  /* maximum delay */
+    int16_t od;            /* offset delay, in bit periods; in force after this packet's own mark */
+    uint8_t index;         /* of the next mark, or VIKOMBARE_INDEX_UNKNOWN: not given */
+} vikombare_numbers_notice;
+
 /* A notice of profile 0, beside its addressing field. */
 typedef struct {
     uint8_t continuity;  /* 0 to 15 */
@@ -188,8 +218,8 @@ typedef struct {
 } vikombare_reading;
 
 /* Starts a slave: hunting, nothing pending. n is one of the profile's cadences (profile 0: 2016 * v * r with v = 2, 4 or 6 bits and r = 1/2, 2/3, 3/4, 5/6 or
- * 7/8, such as 10584 for 64-QAM 7/8; profile 1: 624), site is 1 to 65535, tad is below a second. Order: 15, which leaves the cold slave, all 0 but for index
- * 255. */
+ * 7/8, such as 10584 for 64-QAM 7/8; profile 1: 624), site is 1 to 65535, tad is below a second. Order: 15, which leaves the cold slave, all 0 but for the
+ * index, which is 255. */
 vikombare_change vikombare_dvb_start(uint16_t n, uint16_t site, vikombare_steps tad);
 vikombare_change vikombare_a110_start(uint16_t n, uint16_t site, vikombare_periods tad);
 
@@ -200,12 +230,10 @@ vikombare_change vikombare_a110_start(uint16_t n, uint16_t site, vikombare_perio
  * that were in force before a notice on the same packet. */
 vikombare_reply vikombare_packet(vikombare_slave *slave, const uint8_t *packet, size_t length, vikombare_tick arrival);
 
-/* Takes a packet that comes with a notice in numbers, profile 1, in place of vikombare_packet for this packet: the pointer to the next mark, its STS, MD and
- * OD (in bit periods; in force after this packet's own mark), and its index (255: not given). Keep the slave in the answer in place of the old one. Order: 15
- * (cold slave), 1, 2, 3, 20 (each gives the slave back as it was); then 4, 11, 12, 13 ignore the notice, and the packet counts. A slave of profile 0 judges
- * the tick by its own second before it answers 20. */
-vikombare_step vikombare_numbers(vikombare_slave slave, const uint8_t *packet, size_t length, vikombare_periods arrival, uint16_t pointer,
-                                 vikombare_periods sts, vikombare_periods md, int16_t od, uint8_t index);
+/* Takes a packet that comes with a notice in numbers, profile 1, in place of vikombare_packet for this packet. Keep the slave in the answer in place of the
+ * old one. Order: 15 (cold slave), 1, 2, 3, 20 (each gives the slave back as it was); then 4, 11, 12, 13 ignore the notice, and the packet counts. A slave of
+ * profile 0 judges the tick by its own second before it answers 20. */
+vikombare_step vikombare_numbers(vikombare_slave slave, const uint8_t *packet, size_t length, vikombare_periods arrival, vikombare_numbers_notice notice);
 
 /* Tells a locked slave that k packets were lost: it counts on, passes the marks among them, and drops a notice whose mark is among them. A hunting slave
  * is unchanged. Order: 15 (cold slave). */

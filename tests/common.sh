@@ -12,11 +12,12 @@ program() {
     rt check log
 }
 
-# build NAME WORDS...: target/tests/NAME from tests/NAME.rs, offline and with the standard library alone.
+# build NAME FILE WORDS...: target/tests/NAME from tests/FILE, offline and with the standard library alone.
 build() {
     name=$1
-    shift
-    rustc --edition 2021 -C opt-level=3 -C codegen-units=1 --check-cfg 'cfg(faults)' -L target/staticlib "$@" "tests/$name.rs" -o "$out/$name"
+    from=$2
+    shift 2
+    rustc --edition 2021 -C opt-level=3 -C codegen-units=1 --check-cfg 'cfg(faults)' -L target/staticlib "$@" "tests/$from" -o "$out/$name"
 }
 
 # step NAME COMMAND...: the last line of what the command prints, or all of it if it fails. target/tests/NAME.log has it whole.

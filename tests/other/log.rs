@@ -1,38 +1,7 @@
-//! The log program a second time: from a capture's bytes to the lines that it prints.
-//! Written from document 01 alone over the other slave; it shares no code with the proved crates, which are compared with it.
-//! `rule(right, fault, wrong)` is `right` unless that fault is seeded.
+//! The log program: from a capture's bytes to the lines that it prints. From document 01, over the slave.
 
-use crate::slave::{MarkPart, NoticePart, Slave};
-use faults::{rule, Fault::*};
-
-/// Small faults that can be seeded into the rules below. Built without `--cfg faults` every rule is the papers' own, at no cost.
-pub mod faults {
-    faults! {
-        ShortSettingsPadded: "eight bytes of settings are read with a zero behind them",
-        RefusedCarriesOn: "refused settings are followed by an end line",
-        SiteForCadence: "the site line has its two numbers swapped",
-        NumberFromOne: "the first record has number 1",
-        TickLittleEndian: "the tick is read with its last byte first",
-        TickAfterPacket: "the tick stands behind the packet",
-        CutUncounted: "a record cut short is not counted",
-        CutSilent: "a record cut short has no line",
-        CutInTickSilent: "a record cut short inside its tick is nothing left",
-        CutFedToSlave: "a record cut short is refused as the slave refuses its packet's first byte",
-        RefusedByK: "a refused record shows its number alone",
-        EndCountsAccepted: "the end line counts the records that are not refused",
-        LabelHidden: "label 0 shows as none",
-        NoticeBeforeLabel: "the notice stands before the label",
-        SlipTaken: "a slip shows as taken",
-        IgnoredHidden: "a notice that is ignored shows as none",
-        UntimedHidden: "an untimed mark shows as none",
-        LateUntimed: "a late mark shows as untimed",
-        ModulationShown: "the last column has the modulation time",
-        ReferenceShown: "the last column has the reference emission time",
-        Hexadecimal: "numbers are printed in hexadecimal",
-        LeadingZero: "numbers below ten have a zero in front",
-        NoLastLineFeed: "the end line has no line feed",
-    }
-}
+use super::faults::{rule, Fault::*};
+use super::slave::{MarkPart, NoticePart, Slave};
 
 /// A capture's settings: profile (1), n (2), site (2), TAD (4).
 pub const SETTINGS: usize = 9;

@@ -1,42 +1,8 @@
-//! The saved block a second time: save and resume.
-//! Written from document 01 alone over the other slave; it shares no code with the proved crates, which are compared with it.
-//! An error is document 01's number. `rule(right, fault, wrong)` is `right` unless that fault is seeded.
+//! The saved block: save and resume. From document 01, over the slave.
 
-use crate::ground::register;
-use crate::slave::{Slave, COLD, LOCKED};
-use faults::{rule, Fault::*};
-
-/// Small faults that can be seeded into the rules below. Built without `--cfg faults` every rule is the papers' own, at no cost.
-pub mod faults {
-    faults! {
-        SaveRoomFirst: "save judges 18 before 15",
-        SaveNeedsMore: "save refuses a buffer of exactly 38 bytes",
-        SaveRefusedWrites: "a refused save writes as much as fits",
-        SaveTailCleared: "a save clears the bytes after the 38",
-        SaveOtherDistance: "save counts the distance from the block's end",
-        SaveLabelSwapped: "save writes the label with its bytes swapped",
-        SaveCheckInverted: "the last byte of the check value is inverted",
-        SettingsLast: "resume judges 15 after 16",
-        RefusedSettingsKept: "15 leaves a hunting slave",
-        OtherBoardFirst: "17 is judged before 16",
-        OtherBoardKept: "17 leaves the block's own slave",
-        RefusedBlockHunts: "16 leaves a hunting slave with the block's TAD",
-        AnyPhase: "resumes on any phase but 0",
-        DistanceOf29: "a distance of 29 is taken",
-        DistanceOf30Only: "a distance above 30 is refused",
-        DistanceCut: "a distance that leads out of the block is taken as its start",
-        BlockAtFront: "the block is the first 38 bytes",
-        ShortAsOther: "fewer than 38 bytes give 17",
-        CheckOfBody: "the check value covers the body alone",
-        CheckUnjudged: "the check value is not judged",
-        TrailerSiteUnjudged: "the trailer's site is not compared with the body's",
-        SiteUnjudged: "the board's site is not compared",
-        CadenceUnjudged: "the board's n is not compared",
-        TadUnjudged: "the board's TAD is not compared",
-        FrequencyOf24Bits: "the frequency's first byte is not read",
-        OffsetUnsigned: "a negative OD is read as 0",
-    }
-}
+use super::basics::register;
+use super::faults::{rule, Fault::*};
+use super::slave::{Slave, COLD, LOCKED};
 
 /// The bytes of a body, of a trailer, and of what save writes.
 pub const BODY: usize = 30;

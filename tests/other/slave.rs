@@ -1,64 +1,8 @@
-//! The slave a second time: start, packet, numbers notice and gap, and which slaves count as cold.
-//! Written from document 01 alone over the other ground; it shares no code with the proved crates, which are compared with it.
-//! An error is document 01's number that refuses the whole call. `rule(right, fault, wrong)` is `right` unless that fault is seeded.
+//! The slave: start, packet, numbers notice and gap, and which slaves count as cold.
+//! From document 01, over the basics. An error is the number that refuses the whole call.
 
-use crate::ground::{self, Settings, Times, A110_SECOND, DVB_SECOND};
-use faults::{rule, Fault::*};
-
-/// Small faults that can be seeded into the rules below. Built without `--cfg faults` every rule is the papers' own, at no cost.
-pub mod faults {
-    faults! {
-        StartOnAnyTad: "start accepts a TAD of a second or more",
-        StartWithoutSite: "start accepts site 0",
-        PhaseNotZero: "every phase but 0 and 1 counts as locked",
-        HuntingWithPower: "a hunting slave may have a power",
-        FrequencyOf32Bits: "a frequency beyond 24 bits is sound",
-        LabelOfN: "a next label of n is sound",
-        IndexInDvb: "an index is sound in profile 0",
-        TimesLeftOver: "STS and MD may be left with nothing pending",
-        PendingUnjudged: "a pending notice is not judged by 13",
-        ColdKept: "15 leaves the slave as it was handed in",
-        LengthAfterSync: "2 is judged before 1",
-        TickBeforeSync: "3 is judged before 2",
-        TickOfASecond: "an arrival tick of U is accepted",
-        TickByOtherClock: "in profile 1 the tick is judged by profile 0's second",
-        HuntingTickUnjudged: "a hunting slave's tick is not judged",
-        ForeignTickTaken: "a tick of the other profile's clock is taken for the slave's own",
-        ErrorAfterPid: "4 is judged for PID 0x15 alone",
-        A110ReadsMip: "in profile 1 the packet call takes a MIP",
-        ErrorBeforeProfile: "in a numbers notice 4 is judged before 20",
-        IndexBeforeLimits: "in a numbers notice 12 is judged before 11",
-        IndexOf20: "an index of 20 is accepted",
-        OldOffsetJudged: "13 is judged with the old OD",
-        RefusedSettingsEnter: "a notice refused with 13 leaves its settings",
-        RefusalUncounted: "a packet whose notice is refused does not count",
-        HuntingRefusalSilent: "a hunting slave does not tell why a notice was refused",
-        LabelOffByOne: "the label is n - pointer",
-        SlipKeepsCount: "a slip keeps the slave's own count",
-        SlipReleases: "a slip onto label 0 releases the pending notice",
-        SlipKeepsIndex: "a slip keeps the index",
-        MarkSlips: "a notice on label 0 is always a slip",
-        FirstLockUnmarked: "a first lock on label 0 has no mark",
-        NewNoticeReleased: "a notice on the mark's packet is released at once",
-        NewOffsetReleased: "the mark is released with the OD of its own packet's notice",
-        FirstNoticeStays: "a second notice in a cadence does not replace the first",
-        LateKept: "a late mark keeps its notice",
-        ReleasedTimesLeft: "a release leaves STS and MD",
-        NumbersDropPower: "a numbers notice sets frequency and power to 0",
-        TurnBeforeMark: "an index is compared before the packet's mark is passed",
-        TurnFromUnknown: "a turn is marked from an unknown index",
-        UnknownEnters: "an index of 255 enters",
-        IndexPast19: "the index after 19 is 1",
-        PlaceOfNextMark: "the M/H place is reckoned from the next mark's index",
-        GapUncounted: "a gap does not move the count",
-        GapOf16Bits: "next label and gap are added in 16 bits",
-        GapKeepsMark: "a gap from label 0 on does not pass the mark there",
-        GapDropsEarly: "a gap that ends before the mark drops its notice",
-        GapNeverDrops: "a gap drops no notice",
-        GapRaisesOnce: "a gap raises the index once, however many marks it passes",
-        GapOfZeroUnjudged: "a gap of 0 is not judged by 15",
-    }
-}
+use super::basics::{self, second, Settings, Times, A110_SECOND, DVB_SECOND};
+use super::faults::{rule, Fault::*};
 
 // ---- The slave (01, "Steps of a slave", "Saved block")
 
@@ -69,7 +13,6 @@ pub const LOCKED: u8 = 2;
 pub const UNKNOWN: u8 = 255;
 
 /// The saved body's parts in its order. `next` is the next packet's label, `index` the next mark's.
-#[repr(C)]
 #[derive(Clone, Copy, Debug, PartialEq)]
 pub struct Slave {
     pub phase: u8,
@@ -139,15 +82,6 @@ struct Accepted {
 /// A packet's notice: none, accepted, or the number with which it is ignored.
 type Judged = Result<Option<Accepted>, u8>;
 
-/// The profile's second.
-pub fn second(profile: u8) -> u32 {
-    if profile == 0 {
-        DVB_SECOND
-    } else {
-        A110_SECOND
-    }
-}
-
 /// Whether n is a cadence of the profile: 2016 × v × r, or 624.
 fn admits(profile: u8, n: u16) -> bool {
     match profile {
@@ -203,18 +137,14 @@ impl Slave {
 
     /// Number 13.
     fn delay_fits(&self, md: u32, od: i16) -> bool {
-        if self.profile == 0 {
-            ground::dvb_delay_fits(md, od)
-        } else {
-            ground::a110_delay_fits(md, od, self.tad)
-        }
+        basics::delay_fits(self.profile, md, od, self.tad)
     }
 
     // ---- Packets
 
     /// A packet with its arrival tick, in place.
     pub fn packet(&mut self, packet: &[u8], tick: u32) -> Result<Reply, u8> {
-        self.packet_with(ground::register, packet, tick)
+        self.packet_with(basics::register, packet, tick)
     }
 
     /// The same, by value.
@@ -229,7 +159,7 @@ impl Slave {
         let p = self.arrived(packet, tick)?;
         let pid = u16::from_be_bytes([p[1], p[2]]) & 0x1FFF;
         let error = p[1] & 0x80 != 0;
-        let notice = if rule(error, ErrorAfterPid, error && pid == 0x15) {
+        let notice = if rule(error, ErrorOfNoticesAlone, error && pid == 0x15) {
             Err(4)
         } else if rule(self.profile == 0, A110ReadsMip, true) && pid == 0x15 {
             self.judge(register, p).map(Some)
@@ -309,7 +239,7 @@ impl Slave {
             return Err(9);
         }
         let before = Settings { od: self.od, frequency: self.frequency, power: self.power };
-        let settings = ground::settings(&p[21..21 + a], self.site, before)?;
+        let settings = basics::settings(&p[21..21 + a], self.site, before)?;
         let (sts, md) = (u32::from_be_bytes([0, p[10], p[11], p[12]]), u32::from_be_bytes([0, p[13], p[14], p[15]]));
         if sts >= DVB_SECOND || md >= DVB_SECOND {
             return Err(11);
@@ -339,7 +269,7 @@ impl Slave {
 
     /// Number 12 of a pointer, or the packet's label.
     fn label(&self, pointer: u16) -> Result<u16, u8> {
-        ground::label(self.n, pointer).map(|label| rule(label, LabelOffByOne, (label + 1) % self.n))
+        basics::label(self.n, pointer).map(|label| rule(label, LabelOffByOne, (label + 1) % self.n))
     }
 
     /// Number 13, with the OD in force once this notice is taken.
@@ -415,14 +345,12 @@ impl Slave {
     }
 
     /// Label 0: a pending notice is released, or late, and cleared; the index is raised. A hunting slave and one that slipped have none.
-    /// A sound slave's release is refused with 14 alone.
     fn pass_mark(&mut self, tick: u32) -> MarkPart {
         let &mut Slave { phase, profile, tad, od, pending, sts, md, .. } = self;
         let mark = if pending == 0 {
             rule(MarkPart::Untimed, FirstLockUnmarked, if phase == HUNTING { MarkPart::None } else { MarkPart::Untimed })
         } else {
-            let times = if profile == 0 { ground::dvb_release(sts, md, od, tad, tick) } else { ground::a110_release(sts, md, od, tad, tick) };
-            times.map_or(MarkPart::Late, MarkPart::Released)
+            basics::release(profile, sts, md, od, tad, tick).map_or(MarkPart::Late, MarkPart::Released)
         };
         if rule(true, LateKept, mark != MarkPart::Late) {
             self.clear();
@@ -447,7 +375,7 @@ impl Slave {
             0 => 19,
             index => index - 1,
         };
-        Some(ground::mobile_place(rule(passed, PlaceOfNextMark, self.index), label))
+        Some(basics::mobile_place(rule(passed, PlaceOfNextMark, self.index), label))
     }
 
     // ---- Gaps

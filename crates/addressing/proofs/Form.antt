@@ -1,6 +1,5 @@
 -- The form of an addressing field depends neither on the site nor on what was set before, so that every reader judges it alike.
--- Assumes nothing.
-use mathlib.Core.Path.{_≡_, refl, sym, ap, _∙_}
+use mathlib.Core.Path.{_≡_, refl}
 use mathlib.Core.Bool.{Bool, true, false, cond}
 use mathlib.Core.List.{List, [], _∷_}
 use Prim.Native.Nat.{ℕ, zero, suc, _-_}
@@ -10,7 +9,7 @@ use Rattle.wire.specs.Reply.{Reply, refused, given}
 use Rattle.wire.specs.BigEndian.{be16}
 use Rattle.addressing.specs.declared.Settings.{Settings}
 use Rattle.addressing.specs.Functions.{lengthFits, setBy, formed, functionsIn, functionsOf}
-use Rattle.addressing.specs.Entries.{applies, andThen, isGiven, entriesIn, settingsOf, wellFormed}
+use Rattle.addressing.specs.Entries.{addressed, andThen, isGiven, entriesIn, settingsOf, wellFormed}
 
 formed-alike : (b : Bool) (x y : Reply Settings) → isGiven x ≡ isGiven y → isGiven (formed b x) ≡ isGiven (formed b y)
 formed-alike true x y e = e
@@ -41,8 +40,8 @@ entries-alike (suc f) (hi ∷ []) site other t u = refl
 entries-alike (suc f) (hi ∷ lo ∷ []) site other t u = refl
 entries-alike (suc f) (hi ∷ lo ∷ loop ∷ rest) site other t u =
     formed-alike (leb loop (length rest)) _ _
-    (then-alike (functionsOf (applies site (be16 hi lo)) (take loop rest) t) (functionsOf (applies other (be16 hi lo)) (take loop rest) u) _ _
-    (functions-alike (suc (length (take loop rest))) (applies site (be16 hi lo)) (applies other (be16 hi lo)) (take loop rest) t u)
+    (then-alike (functionsOf (addressed site (be16 hi lo)) (take loop rest) t) (functionsOf (addressed other (be16 hi lo)) (take loop rest) u) _ _
+    (functions-alike (suc (length (take loop rest))) (addressed site (be16 hi lo)) (addressed other (be16 hi lo)) (take loop rest) t u)
     (λ a b. entries-alike f (drop loop rest) site other a b))
 
 -- settings are given exactly where the form is right

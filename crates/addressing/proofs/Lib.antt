@@ -1,5 +1,4 @@
 -- The laws of crate `addressing`, in the order in which they build on each other.
-pub mod Lengths
-pub mod Sets
 pub mod Turns
 pub mod Form
+pub mod Both

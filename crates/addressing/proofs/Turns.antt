@@ -1,22 +1,30 @@
 -- One turn of the walk over the functions of a loop, and of the walk over the entries of a field, at a place of it.
--- Assumes nothing.
-use mathlib.Core.Path.{_≡_, refl, sym, ap, ap₂, _∙_}
+use mathlib.Core.Path.{_≡_, refl, sym, ap, _∙_}
 use mathlib.Core.Bool.{Bool, true, false, cond}
-use mathlib.Core.List.{List, [], _∷_}
+use mathlib.Core.List.{List, _∷_}
 use Prim.Native.Nat.{ℕ, zero, suc, _+_, _-_, _≤_, _<_}
-use native.Mathlib.Nat.{le-of-suc-le-suc}
 use native.Mathlib.Omega.{arith}
 use native.Mathlib.Decide.{decLe}
 use lib.ListN.{length, drop, take, getD, length-drop, drop-of-length-le}
 use lib.Seq.{drop-cons, drop-drop}
-use lib.Dec.{leb}
-use borrow.Author.Tests.{le-leb, lt-leb}
+use lib.Dec.{eqb, leb}
+use borrow.Author.Tests.{eqb-true, leb-true, le-leb, lt-leb}
 use Rattle.wire.specs.Reply.{Reply, refused, given}
 use Rattle.addressing.specs.declared.Settings.{Settings}
 use Rattle.wire.specs.BigEndian.{be16At}
-use Rattle.addressing.specs.Functions.{lengthFits, setBy, formed, functionsIn, functionsOf}
-use Rattle.addressing.specs.Entries.{applies, andThen, entriesIn}
-use Rattle.addressing.proofs.Lengths.{at-least}
+use Rattle.addressing.specs.Functions.{lengthFits, setBy, functionsIn, functionsOf}
+use Rattle.addressing.specs.Entries.{addressed, entriesIn}
+
+-- every function counts its tag and its length
+cases : (a b c : Bool) (n : ℕ) → cond a (eqb n 4) (cond b (eqb n 5) (cond c (eqb n 4) (leb 2 n))) ≡ true → 2 ≤ n
+cases true b c n h = omega (arith, eqb-true n 4 h)
+cases false true c n h = omega (arith, eqb-true n 5 h)
+cases false false true n h = omega (arith, eqb-true n 4 h)
+cases false false false n h = leb-true 2 n h
+
+pub at-least : (tag n : ℕ) → lengthFits tag n ≡ true → 2 ≤ n
+unfolding lengthFits
+at-least tag n h = cases (eqb tag 0) (eqb tag 1) (eqb tag 2) n h
 
 -- a list from a place on begins with what stands there
 pub one-on : (s : List ℕ) (at next : ℕ) → at < length s → next ≡ at + 1 → drop at s ≡ getD s at 0 ∷ drop next s
@@ -116,14 +124,14 @@ module _ (s : List ℕ) (at site : ℕ) (t : Settings) where
       room : n ≤ length (drop (at + 3) s)
       room = omega (arith, left-of s at 3)
 
-      pub entries-wrong : (f : ℕ) → functionsOf (applies site (be16At s at)) (take n (drop (at + 3) s)) t ≡ refused 10 → refused 10 ≡ entriesIn f (drop at s) site t
+      pub entries-wrong : (f : ℕ) → functionsOf (addressed site (be16At s at)) (take n (drop (at + 3) s)) t ≡ refused 10 → refused 10 ≡ entriesIn f (drop at s) site t
       unfolding entriesIn
       entries-wrong zero w = refl
       entries-wrong (suc f) w = rw (three-on s at h, ← e, le-leb n (length (drop (at + 3) s)) room, w)
 
       -- with one turn less, the rest of the walk is the same
       pub entries-on : (f : ℕ) (r : Reply Settings) (after : Settings) → length s - at < f → entriesIn f (drop at s) site t ≡ r
-          → functionsOf (applies site (be16At s at)) (take n (drop (at + 3) s)) t ≡ given after
+          → functionsOf (addressed site (be16At s at)) (take n (drop (at + 3) s)) t ≡ given after
           → (g : ℕ) × (length s - (at + 3 + n) < g) × (entriesIn g (drop (at + 3 + n) s) site after ≡ r)
       unfolding entriesIn
       entries-on zero r after b i w = absurd (omega arith)

@@ -1,14 +1,18 @@
 -- Functions of the addressing field, TS 101 191 subclause 6.1: tag, length and body, one after the other.
--- Assumes nothing.
 use Prim.Native.Nat.{ℕ, zero, suc, _-_}
 use mathlib.Core.Bool.{Bool, true, false, cond}
 use mathlib.Core.List.{List, [], _∷_}
+use lib.IntN.{pos}
 use lib.ListN.{length, take, drop}
 use lib.Dec.{eqb, leb}
 use Rattle.wire.specs.Reply.{Reply, refused, given}
 use Rattle.wire.specs.BigEndian.{be16At, be24At}
 use Rattle.wire.specs.Signed.{signed16, signed24}
 use Rattle.addressing.specs.declared.Settings.{Settings}
+
+-- the settings of a site that was told nothing
+abbrev pub noSettings : Settings
+noSettings = record { od = pos 0; frequency = pos 0; power = 0 }
 
 -- function_length counts the tag, itself and the body (tables 7 to 10): 4, 5 and 4 for tags 0 to 2, at least 2 for the others
 unfoldable pub lengthFits : ℕ → ℕ → Bool

@@ -1,10 +1,8 @@
 // The individual addressing field of a notice, TS 101 191 clause 6: its form, and the settings that it gives a site.
 ghost use mathlib.Core.Path.{_≡_};
-ghost use mathlib.Core.Bool.{true, cond};
-ghost use Prim.Native.Nat.{_+_};
-ghost use lib.ListN.{length};
-ghost use Rattle.addressing.specs.Functions.{lengthFits, setBy, functionsOf};
-ghost use Rattle.addressing.specs.Entries.{applies, settingsOf, noSettings, wellFormed, walkedReply};
+ghost use mathlib.Core.Bool.{cond};
+ghost use Rattle.addressing.specs.Functions.{noSettings, lengthFits, setBy, functionsOf};
+ghost use Rattle.addressing.specs.Entries.{addressed, settingsOf, wellFormed, walkedReply};
 
 // What a site can be told: time offset in 100 ns steps, frequency offset in Hz, power in 0.1 dBm.
 #[repr(C)]
@@ -14,10 +12,21 @@ pub struct Settings {
     pub power: u16,
 }
 
-// The settings after a field, or a field of wrong form.
+// The settings after a field, or none of a field of wrong form.
 pub enum Walked {
-    Whole(Settings),
-    Wrong,
+    Set(Settings),
+    Malformed,
+}
+
+// The settings of a site that was told nothing.
+pub fn no_settings() -> Settings
+    ensures { λ r. ⌜ r ≡ noSettings ⌝ }
+{
+    Settings {
+        od: 0,
+        frequency: 0,
+        power: 0,
+    }
 }
 
 // Whether a function of this tag may have this length.
@@ -36,9 +45,9 @@ fn length_fits(tag: u8, n: usize) -> bool
     n >= 2
 }
 
-// Whether an entry for id applies to the site.
-fn entry_applies(site: u16, id: u16) -> bool
-    ensures { λ r. ⌜ r ≡ applies site id ⌝ }
+// Whether an entry for id is addressed to the site.
+fn addressed(site: u16, id: u16) -> bool
+    ensures { λ r. ⌜ r ≡ addressed site id ⌝ }
 {
     if id == 0 {
         return true;
@@ -48,7 +57,6 @@ fn entry_applies(site: u16, id: u16) -> bool
 
 // The settings after one function, where it applies.
 fn set_by(on: bool, tag: u8, body: &[u8], t: Settings) -> Settings
-    requires { ⌜ lengthFits tag (length (now body) + 2) ≡ true ⌝ }
     ensures { λ r. ⌜ r ≡ cond on (setBy tag (now (body .entry)) t) t ⌝ }
 {
     let mut after = t;
@@ -56,15 +64,15 @@ fn set_by(on: bool, tag: u8, body: &[u8], t: Settings) -> Settings
         return after;
     }
     if tag == 0 {
-        after.od = wire::signed_16(wire::number16(body[0], body[1]));
+        after.od = wire::signed_16(wire::number16_at(body, 0));
         return after;
     }
     if tag == 1 {
-        after.frequency = wire::signed_24(body[0], body[1], body[2]);
+        after.frequency = wire::signed_24(wire::number24_at(body, 0));
         return after;
     }
     if tag == 2 {
-        after.power = wire::number16(body[0], body[1]);
+        after.power = wire::number16_at(body, 0);
         return after;
     }
     after
@@ -79,22 +87,22 @@ fn functions(on: bool, s: &[u8], before: Settings) -> Walked
     while at < s.len() {
         let left = s.len() - at;
         if left < 2 {
-            return Walked::Wrong;
+            return Walked::Malformed;
         }
         let tag = s[at];
-        let n = wire::wide(s[at + 1]);
+        let n = wire::byte_at(s, at + 1) as usize;
         if !length_fits(tag, n) {
-            return Walked::Wrong;
+            return Walked::Malformed;
         }
         if left < n {
-            return Walked::Wrong;
+            return Walked::Malformed;
         }
         let start = at + 2;
         let end = at + n;
         t = set_by(on, tag, &s[start..end], t);
         at = end;
     }
-    Walked::Whole(t)
+    Walked::Set(t)
 }
 
 // The settings of a site after an addressing field, later entries replacing earlier ones; a setting that no entry gives is kept.
@@ -106,46 +114,30 @@ pub fn settings_of(s: &[u8], site: u16, before: Settings) -> Walked
     while at < s.len() {
         let left = s.len() - at;
         if left < 3 {
-            return Walked::Wrong;
+            return Walked::Malformed;
         }
-        let n = wire::wide(s[at + 2]);
+        let n = wire::byte_at(s, at + 2) as usize;
         if left - 3 < n {
-            return Walked::Wrong;
+            return Walked::Malformed;
         }
         let start = at + 3;
         let end = start + n;
-        let on = entry_applies(site, wire::number16(s[at], s[at + 1]));
-        let Walked::Whole(after) = functions(on, &s[start..end], t) else {
-            return Walked::Wrong;
+        let on = addressed(site, wire::number16_at(s, at));
+        let Walked::Set(after) = functions(on, &s[start..end], t) else {
+            return Walked::Malformed;
         };
         t = after;
         at = end;
     }
-    Walked::Whole(t)
-}
-
-// What no entry has set.
-pub fn no_settings() -> Settings
-    ensures { λ r. ⌜ r ≡ noSettings ⌝ }
-{
-    Settings {
-        od: 0,
-        frequency: 0,
-        power: 0,
-    }
+    Walked::Set(t)
 }
 
 // Whether an addressing field has the form of clause 6.
 pub fn well_formed(s: &[u8]) -> bool
     ensures { λ r. ⌜ r ≡ wellFormed (now (s .entry)) ⌝ }
 {
-    let none = Settings {
-        od: 0,
-        frequency: 0,
-        power: 0,
-    };
-    match settings_of(s, 0, none) {
-        Walked::Whole(_) => true,
-        Walked::Wrong => false,
+    match settings_of(s, 0, no_settings()) {
+        Walked::Set(_) => true,
+        Walked::Malformed => false,
     }
 }

@@ -1,5 +1,4 @@
 -- Laws of the label, for general n: a pointer and its label give each other back, and the packet pointer + 1 places on is the mark.
--- Assumes nothing.
 use mathlib.Core.Path.{_≡_, sym, ap, _∙_}
 use Prim.Native.Nat.{ℕ, _+_, _-_, _%_, _<_}
 use native.Mathlib.Nat.{mod-lt, mod-self, mod-eq-of-lt, mod-add-mod}

@@ -1,5 +1,4 @@
 -- Laws of the cadence's length: the fifteen mega-frames have whole lengths, profile 0 admits these and no other, and every n admitted is 624 to 10,584.
--- Assumes nothing.
 use mathlib.Core.Path.{_≡_, refl, sym, _∙_}
 use mathlib.Core.Bool.{Bool, true, false, _||_, false≢true}
 use mathlib.Core.List.{List, [], _∷_}

@@ -1,5 +1,4 @@
 -- Laws of the M/H place: the frame's numbers agree, a place is below 12,480, and the places of successive packets are successive.
--- Assumes nothing.
 use mathlib.Core.Path.{_≡_, refl}
 use Prim.Native.Nat.{ℕ, _+_, _-_, _*_, _%_, _<_}
 use native.Mathlib.Omega.{arith}

@@ -1,5 +1,4 @@
 -- n, the packets of a cadence (document 01, "Cadence"): the data frame of A/110 9.1.2.1 and the mega-frames of TS 101 191 clause 5.
--- Assumes nothing.
 use Prim.Native.Nat.{ℕ, _*_, _/_}
 use mathlib.Core.Bool.{Bool, false, cond, _&&_, _||_}
 use mathlib.Core.List.{List, [], _∷_}

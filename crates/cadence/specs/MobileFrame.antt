@@ -1,5 +1,4 @@
 -- A packet's place in the M/H frame of profile 1 (document 01, "Cadence"; A/110 9.1.2.2).
--- Assumes nothing.
 use Prim.Native.Nat.{ℕ, _+_, _*_, _%_}
 use Rattle.cadence.specs.Cadence.{dataFrame}
 

@@ -3,7 +3,7 @@ ghost use mathlib.Core.Path.{_≡_};
 ghost use mathlib.Core.List.{[], _∷_};
 ghost use lib.Dec.{eqb};
 ghost use Rattle.cadence.specs.Cadence.{bitsOf, numeratorOf, denominatorOf, lengthOf, anyOf, atSomeRate, isMegaFrame, admits};
-ghost use Rattle.cadence.specs.Label.{labelOf, pointerOf, within, replyOf};
+ghost use Rattle.cadence.specs.Label.{labelOf, pointerOf, inCadence, labelReply};
 ghost use Rattle.cadence.specs.MobileFrame.{mobilePlace};
 
 // How many bits a carrier has: v is 2, 4 or 6.
@@ -23,7 +23,7 @@ pub enum CodeRate {
 }
 
 // A label or a pointer, or the number that document 01 refuses with.
-pub enum Answer {
+pub enum LabelAnswer {
     Given(u16),
     Refused(u8),
 }
@@ -138,18 +138,18 @@ pub fn admits(profile: u8, n: u16) -> bool
 }
 
 // The label of the packet whose notice has this pointer.
-pub fn label_of(n: u16, pointer: u16) -> Answer
-    ensures { λ r. ⌜ replyOf r ≡ within n pointer (labelOf n pointer) ⌝ }
+pub fn label_of(n: u16, pointer: u16) -> LabelAnswer
+    ensures { λ r. ⌜ labelReply r ≡ inCadence n pointer (labelOf n pointer) ⌝ }
 {
     if pointer < n {
-        return Answer::Given(n - 1 - pointer);
+        return LabelAnswer::Given(n - 1 - pointer);
     }
-    Answer::Refused(12)
+    LabelAnswer::Refused(12)
 }
 
 // The pointer that a notice has at this label.
-pub fn pointer_of(n: u16, label: u16) -> Answer
-    ensures { λ r. ⌜ replyOf r ≡ within n label (pointerOf n label) ⌝ }
+pub fn pointer_of(n: u16, label: u16) -> LabelAnswer
+    ensures { λ r. ⌜ labelReply r ≡ inCadence n label (pointerOf n label) ⌝ }
 {
     label_of(n, label)
 }

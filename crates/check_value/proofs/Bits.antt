@@ -1,9 +1,8 @@
 -- Laws of the bits that enter the decoder: the step is linear over xor and loses nothing, bits that enter together enter one after the other,
 -- and a register's own bits empty it.
--- Assumes nothing.
 use mathlib.Core.Path.{_≡_, refl, sym, ap, ap₂, _∙_, subst}
 use Prim.Native.Nat.{ℕ, zero, suc, _+_, _*_, _/_, _%_, _^_, _<_, _≤_}
-use native.Mathlib.Nat.{zero-add, suc-add, add-comm, add-mul, mul-assoc, mul-comm, mul-one, mod-lt, mod-one, mod-eq-of-lt, zero-mul, zero-div, pow-suc, mul-le-mul-left}
+use native.Mathlib.Nat.{zero-add, suc-add, add-comm, add-mul, mul-assoc, mul-comm, mul-one, mod-lt, mod-mod, mod-one, mod-eq-of-lt, zero-mul, zero-div, pow-suc, mul-le-mul-left}
 use native.Mathlib.Numerals.{one-add}
 use native.Mathlib.Omega.{arith}
 use lib.Pow.{pow-pos, pow-add, shl-lt, shr-lt, field, high, low, split, shr-shr, mod-mod-pow, mod-pow-add}
@@ -89,7 +88,7 @@ bits-injective (suc n) y z x hy hz e =
     bit-injective y z b hy hz (bits-injective n (bitIn y b) (bitIn z b) x (bit-fits y b) (bit-fits z b) e)
 
 -- only the lowest n bits enter
-bits-low : (n z x y : ℕ) → x % 2 ^ n ≡ y % 2 ^ n → bitsIn n z x ≡ bitsIn n z y
+pub bits-low : (n z x y : ℕ) → x % 2 ^ n ≡ y % 2 ^ n → bitsIn n z x ≡ bitsIn n z y
 unfolding bitsIn
 bits-low zero z x y e = refl
 bits-low (suc n) z x y e =
@@ -112,6 +111,15 @@ bits-join (suc m) n z x y h =
     bits-join m n (bitIn z (x / 2 ^ m % 2)) x y h
     ∙ ap (λ (k : ℕ). bitsIn (m + n) (bitIn z (k % 2)) w) (sym top)
     ∙ ap (λ (k : ℕ). bitsIn k z w) (sym (suc-add m n))
+
+-- the n bits of x above the lowest k, and then the lowest k
+pub bits-split : (n k z x : ℕ) → bitsIn k (bitsIn n z (x / 2 ^ k % 2 ^ n)) x ≡ bitsIn (n + k) z x
+bits-split n k z x =
+    let y : ℕ = x / 2 ^ k in
+    ap (λ (t : ℕ). bitsIn k t x) (bits-low n z (y % 2 ^ n) y (mod-mod y (2 ^ n)))
+    ∙ bits-low k (bitsIn n z y) x (x % 2 ^ k) (sym (mod-mod x (2 ^ k)))
+    ∙ bits-join n k z y (x % 2 ^ k) (mod-lt x (pow-pos k))
+    ∙ ap (bitsIn (n + k) z) (split x k)
 
 -- four bytes are one word
 pub four-bytes : (z a b c d : ℕ) → b < 2 ^ 8 → c < 2 ^ 8 → d < 2 ^ 8

@@ -1,5 +1,4 @@
 -- The generator held to what annex A prints of it: the polynomial, and the adders of figure A.1.
--- Assumes nothing.
 use mathlib.Core.Path.{_≡_, refl}
 use Prim.Native.Nat.{_+_, _*_, _^_}
 use Rattle.check_value.specs.Register.{generator}

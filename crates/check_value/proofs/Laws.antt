@@ -1,13 +1,12 @@
 -- What the check value is good for (TS 101 191 annex A and clause 6, crc_32): bytes followed by their own register leave zero, no other four bytes
 -- do, and a change within one byte is never missed.
--- Assumes nothing.
 use mathlib.Core.Path.{_≡_, refl, sym, ap, ap₂, _∙_}
 use mathlib.Core.List.{List, [], _∷_, _++_}
 use Prim.Native.Nat.{ℕ, zero, suc, _*_, _/_, _%_, _^_, _<_}
-use native.Mathlib.Nat.{div-add-mod', mod-eq-of-lt, le-of-suc-le-suc, not-suc-le-zero}
+use native.Mathlib.Nat.{mod-eq-of-lt, le-of-suc-le-suc, not-suc-le-zero}
 use native.Mathlib.Omega.{arith}
 use lib.ListN.{length, getD, set}
-use lib.Pow.{pow-pos, pow-lt, shr-shr}
+use lib.Pow.{pow-pos, pow-lt}
 use lib.Bits.{bitXor, xor-lt, xor-self, xor-zero-r}
 use Rattle.check_value.specs.Register.{bitsIn, registerFrom, allOnes, register, sealed}
 use Rattle.wire.specs.BigEndian.{be32, byte0, byte1, byte2, byte3, bytes32}

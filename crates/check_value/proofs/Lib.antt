@@ -1,5 +1,4 @@
 -- The laws of the check value, and what they and the functions' proofs are made of.
--- Assumes nothing.
 pub mod Xor
 pub mod Bits
 pub mod Nibbles

@@ -1,49 +1,30 @@
 -- What holds at each turn of `register_of`'s loops, and that a turn of one byte or of eight keeps it.
--- Assumes nothing.
 use mathlib.Core.Path.{_≡_, refl, sym, ap, ap₂, _∙_, subst}
-use mathlib.Core.List.{List, [], _∷_}
-use Prim.Native.Nat.{ℕ, zero, suc, _+_, _*_, _%_, _^_, _<_, _≤_}
-use native.Mathlib.Nat.{add-zero, add-suc, suc-add, zero-add, le-of-suc-le-suc, not-suc-le-zero, div-one, mod-one}
+use mathlib.Core.List.{List}
+use Prim.Native.Nat.{ℕ, _+_, _*_, _%_, _^_, _<_, _≤_}
+use native.Mathlib.Nat.{div-one, mod-one}
 use native.Mathlib.Numerals.{add-one}
 use native.Mathlib.Omega.{arith}
 use lib.ListN.{length, drop, getD, drop-of-length-le}
 use lib.Seq.{drop-cons}
-use lib.Bits.{bitXor, xor-comm}
+use lib.Bits.{bitXor}
 use Rattle.check_value.specs.Register.{bitsIn, registerFrom, allOnes, register}
-use Rattle.check_value.specs.Table.{leftOf, entryOf, IsTable}
 use Rattle.wire.specs.BigEndian.{be32At}
-use Rattle.check_value.proofs.Bits.{bits-fit, bits-apart, bits-enter, four-bytes}
-
--- the values of f at n numbers from i on
-unfoldable pub valuesOf : (ℕ → ℕ) → ℕ → ℕ → List ℕ
-valuesOf f zero i = []
-valuesOf f (suc n) i = f i ∷ valuesOf f n (suc i)
-
-value-at : (f : ℕ → ℕ) (n i k : ℕ) → k < n → getD (valuesOf f n i) k 0 ≡ f (i + k)
-unfolding valuesOf
-value-at f zero i k h = absurd (not-suc-le-zero h)
-value-at f (suc n) i zero h = ap f (sym (add-zero i))
-value-at f (suc n) i (suc k) h = value-at f n (suc i) k (le-of-suc-le-suc h) ∙ ap f (suc-add i k ∙ sym (add-suc i k))
-
--- the rule of the whole table by one test, which antt computes
-pub is-table : (t : List ℕ) → t ≡ valuesOf entryOf 256 0 → IsTable t
-is-table t e =
-    record { entry = λ k h. ap (λ (l : List ℕ). getD l k 0) e ∙ value-at entryOf 256 0 k h ∙ ap entryOf (zero-add k) }
+use Rattle.check_value.proofs.Bits.{bits-fit, bits-join, bits-enter, four-bytes}
 
 -- the register z, once i bytes of s have entered: the rest of s takes it to the register of s
-pub record Reached (s t : List ℕ) (z i : ℕ) : Type 0 where
+pub record Reached (s : List ℕ) (z i : ℕ) : Type 0 where
   pub inside : i ≤ length s
   pub fits : z < 2 ^ 32
   pub rest : registerFrom z (drop i s) ≡ register s
-  pub table : IsTable t
 
-pub at-start : (s t : List ℕ) → IsTable t → Reached s t allOnes 0
+pub at-start : (s : List ℕ) → Reached s allOnes 0
 unfolding register
-at-start s t h = record { inside = omega arith; fits = omega arith; rest = refl; table = h }
+at-start s = record { inside = omega arith; fits = omega arith; rest = refl }
 
-pub at-end : (s t : List ℕ) (z i : ℕ) → length s ≤ i → Reached s t z i → z ≡ register s
+pub at-end : (s : List ℕ) (z i : ℕ) → length s ≤ i → Reached s z i → z ≡ register s
 unfolding registerFrom
-at-end s t z i h r = ap (registerFrom z) (sym (drop-of-length-le s h)) ∙ r .rest
+at-end s z i h r = ap (registerFrom z) (sym (drop-of-length-le s h)) ∙ r .rest
 
 -- a byte more
 next-byte : (s : List ℕ) (i z : ℕ) → i < length s → registerFrom z (drop i s) ≡ registerFrom (bitsIn 8 z (getD s i 0)) (drop (i + 1) s)
@@ -68,35 +49,30 @@ next-word s i z bytes h =
     ∙ next-byte s (i + 3) (next (i + 2) (next (i + 1) (next i z))) (omega arith)
     ∙ ap₂ at (four-bytes z (getD s i 0) (getD s (i + 1) 0) (getD s (i + 2) 0) (getD s (i + 3) 0) (bytes (i + 1)) (bytes (i + 2)) (bytes (i + 3))) e₃
 
--- two words: the first is added to the register, and both leave their part of the next one
-two-words : (z v w : ℕ) → z < 2 ^ 32 → bitXor (leftOf 32 w (0 * 4)) (leftOf 32 (bitXor z v) (8 * 4)) ≡ bitsIn 32 (bitsIn 32 z v) w
-unfolding leftOf bitsIn
-two-words z v w h =
+-- two words: the first is added to the register, and both enter a register of zeros
+two-words : (z v w : ℕ) → z < 2 ^ 32 → w < 2 ^ 32 → bitsIn 64 0 (bitXor z v * 2 ^ 32 + w) ≡ bitsIn 32 (bitsIn 32 z v) w
+two-words z v w hz hw =
     let low : z % 2 ^ 0 * 2 ^ 32 ≡ 0 = omega (arith, mod-one z) in
     let first : bitsIn 32 z v ≡ bitsIn 32 0 (bitXor z v) =
-    bits-enter 32 0 z v refl h
+    bits-enter 32 0 z v refl hz
     ∙ ap₂ (λ (x y : ℕ). bitXor x (bitsIn 32 0 (bitXor y v))) low (div-one z) in
-    xor-comm (bitsIn 32 0 w) (bitsIn 32 (bitsIn 32 0 (bitXor z v)) 0)
-    ∙ ap (λ (x : ℕ). bitXor (bitsIn 32 x 0) (bitsIn 32 0 w)) (sym first)
-    ∙ sym (bits-apart 32 (bitsIn 32 z v) w)
+    sym (bits-join 32 32 0 (bitXor z v) w hw) ∙ ap (λ (x : ℕ). bitsIn 32 x w) (sym first)
 
-pub after-byte : (s t : List ℕ) (z i y : ℕ) → i < length s → y ≡ bitsIn 8 z (getD s i 0) → Reached s t z i → Reached s t y (i + 1)
-after-byte s t z i y h e r =
+pub after-byte : (s : List ℕ) (z i y : ℕ) → i < length s → y ≡ bitsIn 8 z (getD s i 0) → Reached s z i → Reached s y (i + 1)
+after-byte s z i y h e r =
     record {
       inside = omega arith;
       fits = subst (λ (x : ℕ). x < 2 ^ 32) (sym e) (bits-fit 8 z (getD s i 0) (r .fits));
       rest = ap (λ (x : ℕ). registerFrom x (drop (i + 1) s)) e ∙ sym (next-byte s i z h) ∙ r .rest;
-      table = r .table;
     }
 
-pub after-eight : (s t : List ℕ) (z i v w a b : ℕ) → ((k : ℕ) → getD s k 0 < 2 ^ 8) → i + 8 ≤ length s
-    → v ≡ be32At s i → w ≡ be32At s (i + 4) → a ≡ leftOf 32 w (0 * 4) → b ≡ leftOf 32 (bitXor z v) (8 * 4)
-    → Reached s t z i → Reached s t (bitXor a b) (i + 8)
-after-eight s t z i v w a b bytes h ev ew ea eb r =
+pub after-eight : (s : List ℕ) (z i v w x y : ℕ) → ((k : ℕ) → getD s k 0 < 2 ^ 8) → i + 8 ≤ length s
+    → v ≡ be32At s i → w ≡ be32At s (i + 4) → w < 2 ^ 32 → x ≡ bitXor z v * 2 ^ 32 + w → y ≡ bitsIn 64 0 x
+    → Reached s z i → Reached s y (i + 8)
+after-eight s z i v w x y bytes h ev ew hw ex ey r =
     let four : i + 4 + 4 ≡ i + 8 = omega arith in
-    let y : ℕ = bitsIn 32 (bitsIn 32 z (be32At s i)) (be32At s (i + 4)) in
-    let e : bitXor a b ≡ y =
-    ap₂ bitXor ea eb ∙ two-words z v w (r .fits) ∙ ap₂ (λ (m n : ℕ). bitsIn 32 (bitsIn 32 z m) n) ev ew in
+    let e : y ≡ bitsIn 32 (bitsIn 32 z (be32At s i)) (be32At s (i + 4)) =
+    ey ∙ ap (bitsIn 64 0) ex ∙ two-words z v w (r .fits) hw ∙ ap₂ (λ (m n : ℕ). bitsIn 32 (bitsIn 32 z m) n) ev ew in
     record {
       inside = h;
       fits = subst (λ (x : ℕ). x < 2 ^ 32) (sym e) (bits-fit 32 (bitsIn 32 z (be32At s i)) (be32At s (i + 4)) (bits-fit 32 z (be32At s i) (r .fits)));
@@ -105,5 +81,4 @@ after-eight s t z i v w a b bytes h ev ew ea eb r =
           ∙ sym (next-word s (i + 4) (bitsIn 32 z (be32At s i)) bytes (omega arith))
           ∙ sym (next-word s i z bytes (omega arith))
           ∙ r .rest;
-      table = r .table;
     }

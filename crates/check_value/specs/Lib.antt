@@ -1,4 +1,3 @@
 -- The decoder of TS 101 191 annex A, and what the steps of its code promise each other.
--- Assumes nothing.
 pub mod Register
-pub mod Table
+pub mod Nibble

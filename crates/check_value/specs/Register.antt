@@ -1,6 +1,5 @@
 -- The CRC decoder model of TS 101 191 annex A: the outputs of the 32 delay elements z(0) to z(31) are the bits of one number,
 -- and bytes are shifted into them one bit at a time.
--- Assumes nothing.
 use mathlib.Core.List.{List, [], _∷_, _++_}
 use Prim.Native.Nat.{ℕ, zero, suc, _+_, _*_, _/_, _%_, _^_}
 use mathlib.Core.Bool.{cond}

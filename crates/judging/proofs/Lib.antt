@@ -1,4 +1,3 @@
 -- The laws of crate `judging`, in the order in which they build on each other.
 pub mod Judging
-pub mod Plain
-pub mod Pointing
+pub mod Taking

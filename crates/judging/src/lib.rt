@@ -1,89 +1,88 @@
 // How a packet and a numbers notice are judged (document 01, "Numbers a call can refuse with").
 use addressing::Settings;
 use addressing::Walked;
-use notice::Reading;
+use state::Board;
+use times::Periods;
 ghost use mathlib.Core.Path.{_≡_};
 ghost use mathlib.Core.Bool.{_||_};
 ghost use lib.Dec.{eqb, ltb};
-ghost use lib.ListN.{length};
-ghost use Rattle.notice.specs.Mip.{errorIndicator, packetIdentifier};
-ghost use Rattle.notice.specs.Reader.{readOf, addressingPart};
-ghost use Rattle.addressing.specs.Entries.{settingsOf};
 ghost use Rattle.judging.specs.Judgement.{judgementOf};
-ghost use Rattle.judging.specs.Judge.{arrivalRefusal, takenRefusal, numbersRefusal, unlessIgnored, judgeMip, judgePacket, judgeNumbers};
-ghost use Rattle.judging.specs.Plain.{isPlain};
+ghost use Rattle.judging.specs.Judge.{arrivalRefusal, carries, takenRefusal, limited, mipTaken, judgeMip, judgeArrived, judgeGiven};
 
-// The settings of a start.
-pub struct Board {
-    pub profile: u8,
-    pub n: u16,
-    pub site: u16,
-    pub tad: u32,
-}
-
-// What a notice that is taken gives.
-pub struct Taken {
+// What a numbers notice carries: profile 1 alone has it. The index is the next mark's, 255 for unknown.
+#[repr(C)]
+pub struct Numbers {
     pub pointer: u16,
-    pub sts: u32,
-    pub md: u32,
-    pub settings: Settings,
+    pub sts: Periods,
+    pub md: Periods,
+    pub od: i16,
     pub index: u8,
 }
 
-// How a packet was judged: a number of K, no notice, a number of C, or a notice to take.
-pub enum Judged {
-    Refuse(u8),
-    Plain,
-    Ignore(u8),
-    Take(Taken),
+// What a notice that is taken gives, in the profile's own unit.
+pub struct Taken {
+    pub pointer: u16,
+    pub index: u8,
+    pub settings: Settings,
+    pub sts: u32,
+    pub md: u32,
 }
 
+// How a packet that arrived right was judged: it counts, with the number of C that ignores its notice or 0 for no notice; or its notice is taken.
+pub enum Judged {
+    Counts(u8),
+    Takes(Taken),
+}
+
+const UNKNOWN: u8 = 255;
+
 // 1, 2 or 3, or 0 for none.
-fn arrival_refusal(b: Board, p: &[u8], tick: u32) -> u8
-    ensures { λ r. ⌜ r ≡ arrivalRefusal b (now (p .entry)) tick ⌝ }
+pub fn arrival_refusal(profile: u8, p: &[u8], tick: u32) -> u8
+    ensures { λ r. ⌜ r ≡ arrivalRefusal profile (now (p .entry)) tick ⌝ }
 {
-    if p.len() != 188 {
+    if p.len() != wire::PACKET_LENGTH {
         return 1;
     }
     let sync = p[0];
-    if sync != 0x47 {
+    if sync != wire::SYNC_BYTE {
         return 2;
     }
-    if !limits::in_second(b.profile, tick) {
+    if !state::in_second(profile, tick) {
         return 3;
     }
     0
 }
 
-// Two fields of the header of a packet that has its bytes.
-fn error_indicator(p: &[u8]) -> u8
-    requires { ⌜ length (now p) ≡ 188 ⌝ }
-    ensures { λ r. ⌜ r ≡ errorIndicator (now (p .entry)) ⌝ }
+// Whether the packet carries a notice for a slave of this profile.
+fn carries(profile: u8, p: &[u8]) -> bool
+    ensures { λ r. ⌜ r ≡ carries profile (now (p .entry)) ⌝ }
 {
-    p[1] / 128
+    if profile != 0 {
+        return false;
+    }
+    notice::packet_identifier(p) == wire::MIP_PID
 }
 
-fn packet_identifier(p: &[u8]) -> u16
-    requires { ⌜ length (now p) ≡ 188 ⌝ }
-    ensures { λ r. ⌜ r ≡ packetIdentifier (now (p .entry)) ⌝ }
-{
-    wire::number16(p[1], p[2]) % 8192
-}
-
-// The next mark's index is 0 to 19, or 255 for unknown.
+// The next mark's index is 0 to 19, or unknown.
 fn index_allowed(index: u8) -> bool
     ensures { λ r. ⌜ r ≡ (eqb index 255 || ltb index 20) ⌝ }
 {
-    if index == 255 {
+    if index == UNKNOWN {
         return true;
     }
     index < 20
 }
 
-// 12 or 13, or 0 for none.
+// 11, 12 or 13, or 0 for none.
 fn taken_refusal(b: Board, t: Taken) -> u8
     ensures { λ r. ⌜ r ≡ takenRefusal b t ⌝ }
 {
+    if !state::in_second(b.profile, t.sts) {
+        return 11;
+    }
+    if !state::in_second(b.profile, t.md) {
+        return 11;
+    }
     if t.pointer >= b.n {
         return 12;
     }
@@ -91,137 +90,86 @@ fn taken_refusal(b: Board, t: Taken) -> u8
         return 12;
     }
     let settings = t.settings;
-    if !limits::delay_kept(b.profile, t.md, settings.od, b.tad) {
+    if !state::delay_kept(b, t.md, settings.od) {
         return 13;
     }
     0
 }
 
-// A number of C ignores a notice, else it is taken.
-fn unless_ignored(number: u8, t: Taken) -> Judged
-    ensures { λ r. ⌜ judgementOf r ≡ unlessIgnored number t ⌝ }
+// A notice that is otherwise right: 11 to 13 ignore it, else it is taken.
+fn limited(b: Board, t: Taken) -> Judged
+    ensures { λ r. ⌜ judgementOf r ≡ limited b t ⌝ }
 {
+    let number = taken_refusal(b, t);
     if number != 0 {
-        return Judged::Ignore(number);
+        return Judged::Counts(number);
     }
-    Judged::Take(t)
+    Judged::Takes(t)
 }
 
-// A packet of profile 0 with the MIP's PID.
+// What a MIP gives.
+fn mip_taken(p: &[u8], settings: Settings) -> Taken
+    ensures { λ r. ⌜ r ≡ mipTaken (now (p .entry)) settings ⌝ }
+{
+    let sts = notice::synchronization_time_stamp(p);
+    let md = notice::maximum_delay(p);
+    Taken {
+        pointer: notice::pointer(p),
+        index: UNKNOWN,
+        settings: settings,
+        sts: sts.0,
+        md: md.0,
+    }
+}
+
+// A MIP: 6 to 9, then one walk of its addressing field for its form and what it sets, then 11 to 13.
 fn judge_mip(b: Board, t: Settings, p: &[u8]) -> Judged
-    ensures { λ r. ⌜ judgementOf r ≡ judgeMip b (readOf (now (p .entry))) (settingsOf (addressingPart (now (p .entry))) (b .site) t) ⌝ }
+    ensures { λ r. ⌜ judgementOf r ≡ judgeMip b t (now (p .entry)) ⌝ }
 {
-    match notice::read_notice(p) {
-        Reading::Accepted(n) => {
-            let part = notice::addressing_part(p);
-            match addressing::settings_of(part, b.site, t) {
-                Walked::Whole(settings) => {
-                    let sts = n.sts;
-                    let md = n.md;
-                    let taken = Taken {
-                        pointer: n.pointer,
-                        sts: sts.0,
-                        md: md.0,
-                        settings: settings,
-                        index: 255,
-                    };
-                    unless_ignored(taken_refusal(b, taken), taken)
-                }
-                Walked::Wrong => Judged::Ignore(10),
-            }
-        }
-        Reading::Refused(k) => Judged::Ignore(k),
+    let section = notice::section_refusal(p);
+    if section != 0 {
+        return Judged::Counts(section);
+    }
+    let field = notice::addressing_part(p);
+    match addressing::settings_of(field, b.site, t) {
+        Walked::Set(settings) => limited(b, mip_taken(p, settings)),
+        Walked::Malformed => Judged::Counts(10),
     }
 }
 
-// The packet arrives right and carries no notice.
-pub fn is_plain(b: Board, p: &[u8], tick: u32) -> bool
-    ensures { λ r. ⌜ r ≡ isPlain b (now (p .entry)) tick ⌝ }
+// A packet that arrived right. 4 comes before the PID.
+pub fn judge_arrived(b: Board, t: Settings, p: &[u8]) -> Judged
+    ensures { λ r. ⌜ judgementOf r ≡ judgeArrived b t (now (p .entry)) ⌝ }
 {
-    if arrival_refusal(b, p, tick) != 0 {
-        return false;
+    if notice::error_indicator(p) != 0 {
+        return Judged::Counts(4);
     }
-    if error_indicator(p) != 0 {
-        return false;
+    if carries(b.profile, p) {
+        return judge_mip(b, t, p);
     }
-    if b.profile == 0 {
-        return packet_identifier(p) != 0x15;
-    }
-    true
+    Judged::Counts(0)
 }
 
-// A packet with its arrival tick. 4 comes before the PID, and profile 1 reads no MIP.
-pub fn judge_packet(b: Board, t: Settings, p: &[u8], tick: u32) -> Judged
-    ensures { λ r. ⌜ judgementOf r ≡ judgePacket b t (now (p .entry)) tick ⌝ }
+// A numbers notice whose packet arrived right. Frequency and power stay as they are.
+pub fn judge_given(b: Board, t: Settings, p: &[u8], x: Numbers) -> Judged
+    ensures { λ r. ⌜ judgementOf r ≡ judgeGiven b t (now (p .entry)) x ⌝ }
 {
-    let arrival = arrival_refusal(b, p, tick);
-    if arrival != 0 {
-        return Judged::Refuse(arrival);
+    if notice::error_indicator(p) != 0 {
+        return Judged::Counts(4);
     }
-    if error_indicator(p) != 0 {
-        return Judged::Ignore(4);
-    }
-    if b.profile != 0 {
-        return Judged::Plain;
-    }
-    if packet_identifier(p) != 0x15 {
-        return Judged::Plain;
-    }
-    judge_mip(b, t, p)
-}
-
-// 11 of a numbers notice, or 0 for none.
-fn numbers_refusal(b: Board, sts: u32, md: u32) -> u8
-    ensures { λ r. ⌜ r ≡ numbersRefusal b sts md ⌝ }
-{
-    if !limits::in_second(b.profile, sts) {
-        return 11;
-    }
-    if !limits::in_second(b.profile, md) {
-        return 11;
-    }
-    0
-}
-
-// A numbers notice with its packet and tick. Frequency and power stay as they are.
-pub fn judge_numbers(
-    b: Board,
-    t: Settings,
-    p: &[u8],
-    tick: u32,
-    pointer: u16,
-    sts: u32,
-    md: u32,
-    od: i16,
-    index: u8,
-) -> Judged
-    ensures { λ r. ⌜ judgementOf r ≡ judgeNumbers b t (now (p .entry)) tick pointer sts md od index ⌝ }
-{
-    let arrival = arrival_refusal(b, p, tick);
-    if arrival != 0 {
-        return Judged::Refuse(arrival);
-    }
-    if b.profile == 0 {
-        return Judged::Refuse(20);
-    }
-    if error_indicator(p) != 0 {
-        return Judged::Ignore(4);
-    }
-    let refusal = numbers_refusal(b, sts, md);
-    if refusal != 0 {
-        return Judged::Ignore(refusal);
-    }
+    let sts = x.sts;
+    let md = x.md;
     let settings = Settings {
-        od: od,
+        od: x.od,
         frequency: t.frequency,
         power: t.power,
     };
     let taken = Taken {
-        pointer: pointer,
-        sts: sts,
-        md: md,
+        pointer: x.pointer,
+        index: x.index,
         settings: settings,
-        index: index,
+        sts: sts.0,
+        md: md.0,
     };
-    unless_ignored(taken_refusal(b, taken), taken)
+    limited(b, taken)
 }

@@ -1,5 +1,4 @@
--- Laws of records: one more at the end of those handled, and where a record's bytes lie in an input.
--- Assumes nothing.
+-- Laws of records: where a record's bytes lie in an input, and some records and then more.
 use mathlib.Core.Path.{_≡_, refl, sym, ap, ap₂, _∙_, subst}
 use mathlib.Core.Bool.{Bool, true, false}
 use mathlib.Core.List.{List, [], _∷_, _++_, append-assoc, append-nil}
@@ -7,98 +6,116 @@ use Prim.Native.Nat.{ℕ, zero, suc, _+_, _-_, _*_, _/_, _≤_, _<_, min}
 use native.Mathlib.Nat.{min-le-left, min-le-right, min-eq-left, min-eq-right, zero-add}
 use native.Mathlib.Numerals.{add-one}
 use native.Mathlib.Omega.{arith}
-use lib.ListN.{length, take, drop, getD, length-append, length-drop}
+use lib.ListN.{length, take, drop, length-drop}
 use lib.Dec.{leb}
-use lib.Seq.{length-take-le, take-length, take-all, drop-drop, drop-nil, take-nil, getD-take, getD-drop}
+use lib.Seq.{length-take-le, take-length, take-all, drop-drop}
 use borrow.Author.Tests.{eq-eqb, ne-eqb, le-leb, lt-leb, leb-true, leb-false}
-use Rattle.wire.specs.Reply.{Reply, refused}
-use Rattle.wire.specs.BigEndian.{be32, be16At, be32At}
-use Rattle.slave.specs.Answer.{Result}
-use Rattle.cadence.specs.Cadence.{admits}
-use Rattle.limits.specs.Limits.{settingsKept}
+use Rattle.wire.specs.Reply.{refused}
+use Rattle.wire.specs.BigEndian.{be32At}
+use Rattle.state.specs.Slave.{cold}
+use Rattle.state.specs.declared.Slave.{Slave}
+use Rattle.slave.specs.Answer.{Report, Result, left}
 use Rattle.slave.specs.Calls.{startOf, packetOf}
-use Rattle.slave.specs.declared.Slave.{Slave}
+use Rattle.text.specs.Rooms.{lineRoom}
 use Rattle.text.specs.Line.{lineOf, endLine}
-use Rattle.lines.specs.Log.{begunBy, openedBy, openingOf, recordOf, slaveAfter, linesOf}
-use Rattle.lines.proofs.Carrying.{and-false, drop-take}
-use Rattle.lines.specs.Pieces.{handledIn, mostRecords, Handled, endingOf}
+use Rattle.text.specs.Puts.{Fronts, Puts}
+use Rattle.text.proofs.Putting.{retext, refront, front-then}
+use Rattle.lines.specs.Log.{settingsLength, boardIn, begunBy, tickLength, recordLength, recordOf, firstOf, slaveAfter, linesOf}
+use Rattle.lines.specs.Pieces.{mostRecords, handledIn, Handled, PieceTaken, endingOf}
 use Rattle.lines.specs.declared.Piece.{Piece}
 
+-- the settings at the front
+pub begun-short : (h : List ℕ) → length h < settingsLength → left cold (refused 15) ≡ begunBy h
+unfolding begunBy
+begun-short h l = rw (lt-leb settingsLength (length h) l)
+
+pub begun-long : (h : List ℕ) → settingsLength ≤ length h → startOf (boardIn h) ≡ begunBy h
+unfolding begunBy
+begun-long h l = rw (le-leb settingsLength (length h) l)
+
 -- a record that is cut short, and a whole one
-pub record-cut : (s : Slave) (r : List ℕ) → (length r ≡ 192 → ⊥) → recordOf s r ≡ record { slave = s; reply = refused 1 }
+pub record-cut : (s : Slave) (r : List ℕ) → (length r ≡ recordLength → ⊥) → recordOf s r ≡ left s (refused 1)
 unfolding recordOf
-record-cut s r h = rw (ne-eqb (length r) 192 h)
+record-cut s r h = rw (ne-eqb (length r) recordLength h)
 
-pub record-whole : (s : Slave) (r : List ℕ) → length r ≡ 192 → recordOf s r ≡ packetOf s (drop 4 r) (be32At r 0)
+pub record-whole : (s : Slave) (r : List ℕ) → length r ≡ recordLength → recordOf s r ≡ packetOf s (drop tickLength r) (be32At r 0)
 unfolding recordOf
-record-whole s r h = rw (eq-eqb (length r) 192 h)
+record-whole s r h = rw (eq-eqb (length r) recordLength h)
 
--- record k of an input
-abbrev pub recordAt : ℕ → List ℕ → List ℕ
-recordAt k i = take 192 (drop (192 * k) i)
+-- the bytes from record j of what follows the first record
+next-at : (j : ℕ) (i : List ℕ) → drop (recordLength * j) (drop recordLength i) ≡ drop (recordLength * suc j) i
+next-at j i =
+    let e : recordLength + recordLength * j ≡ recordLength * suc j = omega arith in
+    drop-drop (recordLength * j) recordLength i ∙ ap (λ (n : ℕ). drop n i) e
 
--- record k of what follows the first record
-next-at : (k : ℕ) (i : List ℕ) → drop (192 * k) (drop 192 i) ≡ drop (192 * suc k) i
-next-at k i = let e : 192 + 192 * k ≡ 192 * suc k = omega arith in drop-drop (192 * k) 192 i ∙ ap (λ (n : ℕ). drop n i) e
-
--- one record more
-pub slave-more : (k : ℕ) (s : Slave) (i : List ℕ) → slaveAfter (suc k) s i ≡ recordOf (slaveAfter k s i) (recordAt k i) .slave
+-- j records and then k more are j + k records
+pub slave-then : (j k : ℕ) (s : Slave) (i : List ℕ) → slaveAfter (j + k) s i ≡ slaveAfter k (slaveAfter j s i) (drop (recordLength * j) i)
 unfolding slaveAfter
-slave-more zero s i = refl
-slave-more (suc k) s i =
-    let t : Slave = recordOf s (take 192 i) .slave in
-    slave-more k t (drop 192 i) ∙ ap (λ (r : List ℕ). recordOf (slaveAfter k t (drop 192 i)) (take 192 r) .slave) (next-at k i)
+slave-then zero k s i = ap (λ (n : ℕ). slaveAfter n s i) (zero-add k)
+slave-then (suc j) k s i =
+    let e : suc j + k ≡ suc (j + k) = omega arith in
+    let t : Slave = recordOf s (firstOf i) .slave in
+    ap (λ (n : ℕ). slaveAfter n s i) e
+    ∙ slave-then j k t (drop recordLength i)
+    ∙ ap (slaveAfter k (slaveAfter j t (drop recordLength i))) (next-at j i)
 
-pub lines-more : (k number : ℕ) (s : Slave) (i : List ℕ)
-    → linesOf (suc k) number s i ≡ linesOf k number s i ++ lineOf (number + k) (recordOf (slaveAfter k s i) (recordAt k i) .reply)
+pub lines-then : (j k number : ℕ) (s : Slave) (i : List ℕ)
+    → linesOf (j + k) number s i ≡ linesOf j number s i ++ linesOf k (number + j) (slaveAfter j s i) (drop (recordLength * j) i)
 unfolding linesOf slaveAfter
-lines-more zero number s i =
+lines-then zero k number s i =
     let e : number ≡ number + 0 = omega arith in
-    append-nil (lineOf number (recordOf s (take 192 i) .reply)) ∙ ap (λ (n : ℕ). lineOf n (recordOf s (take 192 i) .reply)) e
-lines-more (suc k) number s i =
-    let t : Slave = recordOf s (take 192 i) .slave in
-    let l : List ℕ = lineOf number (recordOf s (take 192 i) .reply) in
-    let rest : List ℕ = linesOf k (suc number) t (drop 192 i) in
-    let e : suc number + k ≡ number + suc k = omega arith in
-    ap (λ (x : List ℕ). l ++ x) (lines-more k (suc number) t (drop 192 i))
-    ∙ sym (append-assoc l rest (lineOf (suc number + k) (recordOf (slaveAfter k t (drop 192 i)) (recordAt k (drop 192 i)) .reply)))
-    ∙ ap₂ (λ (n : ℕ) (r : List ℕ). l ++ rest ++ lineOf n (recordOf (slaveAfter k t (drop 192 i)) (take 192 r) .reply)) e (next-at k i)
+    ap₂ (λ (m n : ℕ). linesOf m n s i) (zero-add k) e
+lines-then (suc j) k number s i =
+    let t : Slave = recordOf s (firstOf i) .slave in
+    let l : List ℕ = lineOf number (recordOf s (firstOf i) .reply) in
+    let rest : List ℕ = drop recordLength i in
+    let e : suc j + k ≡ suc (j + k) = omega arith in
+    let g : suc number + j ≡ number + suc j = omega arith in
+    ap (λ (n : ℕ). linesOf n number s i) e
+    ∙ ap (λ (x : List ℕ). l ++ x) (lines-then j k (suc number) t rest)
+    ∙ sym (append-assoc l (linesOf j (suc number) t rest) (linesOf k (suc number + j) (slaveAfter j t rest) (drop (recordLength * j) rest)))
+    ∙ ap₂ (λ (n : ℕ) (x : List ℕ). l ++ linesOf j (suc number) t rest ++ linesOf k n (slaveAfter j t rest) x) g (next-at j i)
+
+-- and one record more
+pub line-more : (k number : ℕ) (s : Slave) (i : List ℕ)
+    → linesOf k number s i ++ lineOf (number + k) (recordOf (slaveAfter k s i) (firstOf (drop (recordLength * k) i)) .reply) ≡ linesOf (k + 1) number s i
+unfolding linesOf
+line-more k number s i =
+    sym (lines-then k 1 number s i ∙ ap (λ (x : List ℕ). linesOf k number s i ++ x) (append-nil (lineOf (number + k) (recordOf (slaveAfter k s i) (firstOf (drop (recordLength * k) i)) .reply))))
+
+pub slave-more : (k : ℕ) (s : Slave) (i : List ℕ) → recordOf (slaveAfter k s i) (firstOf (drop (recordLength * k) i)) .slave ≡ slaveAfter (k + 1) s i
+unfolding slaveAfter
+slave-more k s i = sym (slave-then k 1 s i)
 
 -- how many records are handled
-pub handled-bytes : (bytes room number : ℕ) → 192 * handledIn bytes room number ≤ bytes
-unfolding handledIn
-handled-bytes bytes room number = omega (arith, min-le-left (bytes / 192) (min (room / 128) (mostRecords - number)))
+module _ (bytes room number : ℕ) where
+  rest : ℕ
+  rest = min (room / lineRoom) (mostRecords - number)
 
-pub handled-room : (bytes room number : ℕ) → 128 * handledIn bytes room number ≤ room
-unfolding handledIn
-handled-room bytes room number =
-    omega
-    (arith, min-le-right (bytes / 192) (min (room / 128) (mostRecords - number)), min-le-left (room / 128) (mostRecords - number))
+  pub handled-bytes : recordLength * handledIn bytes room number ≤ bytes
+  unfolding handledIn
+  handled-bytes = omega (arith, min-le-left (bytes / recordLength) rest)
 
-pub handled-number : (bytes room number : ℕ) → handledIn bytes room number ≤ mostRecords - number
-unfolding handledIn
-handled-number bytes room number =
-    omega
-    (arith, min-le-right (bytes / 192) (min (room / 128) (mostRecords - number)), min-le-right (room / 128) (mostRecords - number))
+  pub handled-room : lineRoom * handledIn bytes room number ≤ room
+  unfolding handledIn rest
+  handled-room = omega (arith, min-le-right (bytes / recordLength) rest, min-le-left (room / lineRoom) (mostRecords - number))
 
--- the packet and the tick of a whole record, where the code reads them
-module _ (i : List ℕ) (at : ℕ) (h : at + 192 ≤ length i) where
-  pub whole-there : length (take 192 (drop at i)) ≡ 192
-  whole-there = length-take-le 192 (drop at i) (omega (arith, length-drop at i))
+  pub handled-number : handledIn bytes room number ≤ mostRecords - number
+  unfolding handledIn rest
+  handled-number = omega (arith, min-le-right (bytes / recordLength) rest, min-le-right (room / lineRoom) (mostRecords - number))
 
-  pub packet-there : take (at + 192 - (at + 4)) (drop (at + 4) i) ≡ drop 4 (take 192 (drop at i))
-  packet-there =
-      let e : at + 192 - (at + 4) ≡ 188 = omega arith in
-      ap₂ (λ (n : ℕ) (l : List ℕ). take n l) e (sym (drop-drop 4 at i)) ∙ sym (drop-take 4 188 (drop at i))
+-- a whole record, as the code takes it out of an input
+abbrev recordFrom : ℕ → List ℕ → List ℕ
+recordFrom at i = take (at + recordLength - at) (drop at i)
 
-  byte-there : (j : ℕ) → j < 192 → getD i (at + j) 0 ≡ getD (take 192 (drop at i)) j 0
-  byte-there j l = sym (getD-take 192 (drop at i) j 0 l ∙ getD-drop at i j 0)
-
-  pub tick-there : be32 (getD i at 0) (getD i (at + 1) 0) (getD i (at + 2) 0) (getD i (at + 3) 0) ≡ be32At (take 192 (drop at i)) 0
-  tick-there =
-      let e : at ≡ at + 0 = omega arith in
-      let first : getD i at 0 ≡ getD (take 192 (drop at i)) 0 0 = ap (λ (n : ℕ). getD i n 0) e ∙ byte-there 0 (omega arith) in
-      λ j. be32 (first j) (byte-there 1 (omega arith) j) (byte-there 2 (omega arith) j) (byte-there 3 (omega arith) j)
+record-there : (i : List ℕ) (at tick : ℕ) (s : Slave) → at + recordLength ≤ length i → tick ≡ be32At (recordFrom at i) 0
+    → packetOf s (take (length (recordFrom at i) - tickLength) (drop tickLength (recordFrom at i))) tick ≡ recordOf s (firstOf (drop at i))
+record-there i at tick s h e =
+    let r : List ℕ = recordFrom at i in
+    let n : at + recordLength - at ≡ recordLength = omega arith in
+    let whole : length r ≡ recordLength = length-take-le (at + recordLength - at) (drop at i) (omega (arith, length-drop at i)) ∙ n in
+    let part : take (length r - tickLength) (drop tickLength r) ≡ drop tickLength r = take-all (length r - tickLength) (drop tickLength r) (omega (arith, length-drop tickLength r)) in
+    (λ j. packetOf s (part j) (e j)) ∙ sym (record-whole s r whole) ∙ ap (λ (k : ℕ). recordOf s (take k (drop at i))) n
 
 -- the end
 pub ending-empty : (number : ℕ) (rest : List ℕ) → length rest ≡ 0 → endLine number ≡ endingOf number rest
@@ -114,41 +131,26 @@ pub ending-cut : (number : ℕ) (rest : List ℕ) → (length rest ≡ 0 → ⊥
 unfolding endingOf
 ending-cut number rest h e = rw (ne-eqb (length rest) 0 h, ne-eqb number mostRecords e, add-one number)
 
--- the settings at the front
-pub begun-short : (h : List ℕ) → length h < 9 → startOf 0 0 0 0 ≡ begunBy h
-unfolding begunBy startOf settingsKept
-begun-short h l = rw (lt-leb 9 (length h) l, and-false (admits 0 0))
+-- one record more is handled: its packet as the code takes it out of the input, and its line put behind the others
+pub handled-more : {s : Slave} {number : ℕ} {i : List ℕ} {k : ℕ} {out d d′ : List ℕ} {p : Piece} {tick end : ℕ} {q : Result Report} → Handled s number i k out d p
+    → p .used + recordLength ≤ length i
+    → tick ≡ be32At (recordFrom (p .used) i) 0
+    → q ≡ packetOf (p .slave) (take (length (recordFrom (p .used) i) - tickLength) (drop tickLength (recordFrom (p .used) i))) tick
+    → Puts lineRoom d (p .filled) (lineOf (p .number) (q .reply)) d′ end
+    → Handled s number i (k + 1) out d′ (record { slave = q .slave; number = p .number + 1; used = p .used + recordLength; filled = end })
+handled-more {s} {number} {i} {k} {p = p} {tick = tick} {q = q} h room ticks packet put =
+    let same : q ≡ recordOf (slaveAfter k s i) (firstOf (drop (recordLength * k) i)) =
+    packet ∙ record-there i (p .used) tick (p .slave) room ticks ∙ (λ j. recordOf (h .slave j) (firstOf (drop (h .used j) i))) in
+    record {
+      slave = (λ j. same j .slave) ∙ slave-more k s i;
+      next = omega (arith, h .next);
+      used = omega (arith, h .used);
+      lines = refront (line-more k number s i) (front-then (h .lines) (retext (λ j. lineOf (h .next j) (same j .reply)) put));
+    }
 
-pub begun-long : (h : List ℕ) → 9 ≤ length h → startOf (getD h 0 0) (be16At h 1) (be16At h 3) (be32At h 5) ≡ begunBy h
-unfolding begunBy
-begun-long h l = rw (le-leb 9 (length h) l)
-
-pub opening-short : (h : List ℕ) → length h < 9 → openedBy 0 0 (startOf 0 0 0 0 .reply) ≡ openingOf h
-unfolding openingOf startOf settingsKept begunBy
-opening-short h l = rw (lt-leb 9 (length h) l, and-false (admits 0 0))
-
-pub opening-from : (h : List ℕ) (site n : ℕ) (r : Reply (Unit {0})) → site ≡ be16At h 3 → n ≡ be16At h 1 → r ≡ begunBy h .reply
-    → openedBy site n r ≡ openingOf h
-unfolding openingOf
-opening-from h site n r e f g = λ j. openedBy (e j) (f j) (g j)
-
--- a whole record, as the code takes it out of an input
-pub whole-record : (i : List ℕ) (s t : Slave) (k at tick : ℕ) → t ≡ slaveAfter k s i → at ≡ 192 * k → at + 192 ≤ length i
-    → tick ≡ be32 (getD i at 0) (getD i (at + 1) 0) (getD i (at + 2) 0) (getD i (at + 3) 0)
-    → packetOf t (take (at + 192 - (at + 4)) (drop (at + 4) i)) tick ≡ recordOf (slaveAfter k s i) (recordAt k i)
-whole-record i s t k at tick es ea h et =
-    let ticks = et ∙ tick-there i at h in
-    (λ j. packetOf (es j) (packet-there i at h j) (ticks j))
-    ∙ sym (record-whole (slaveAfter k s i) (take 192 (drop at i)) (whole-there i at h))
-    ∙ ap (λ (n : ℕ). recordOf (slaveAfter k s i) (take 192 (drop n i))) ea
-
--- as many as were to be handled
-pub handled-all : {s : Slave} {number : ℕ} {i d : List ℕ} {j k : ℕ} {d′ : List ℕ} {r : Piece} → j ≡ k → Handled s number i d j d′ r → Handled s number i d k d′ r
-handled-all {s} {number} {i} {d} {j} {k} {d′} {r} e p = subst (λ (n : ℕ). Handled s number i d n d′ r) e p
-
-pub used-within : {s : Slave} {number : ℕ} {i d : List ℕ} {d′ : List ℕ} {r : Piece} → Handled s number i d (handledIn (length i) (length d) number) d′ r
-    → r .used ≤ length i
-used-within {number = number} {i = i} {d = d} p = omega (arith, p .used, handled-bytes (length i) (length d) number)
+-- the same, said of another count
+pub handled-same : {s : Slave} {number : ℕ} {i : List ℕ} {j k : ℕ} {out out′ : List ℕ} {r : Piece} → j ≡ k → Handled s number i j out out′ r → Handled s number i k out out′ r
+handled-same {s} {number} {i} {out = out} {out′ = out′} {r = r} e p = subst (λ (n : ℕ). Handled s number i n out out′ r) e p
 
 take-min-by : (n : ℕ) (d : List ℕ) (b : Bool) → leb n (length d) ≡ b → take (min n (length d)) d ≡ take n d
 take-min-by n d true e = ap (λ (k : ℕ). take k d) (min-eq-left (leb-true n (length d) e))
@@ -160,9 +162,17 @@ take-min-by n d false e =
 pub take-min : (n : ℕ) (d : List ℕ) → take (min n (length d)) d ≡ take n d
 take-min n d = take-min-by n d (leb n (length d)) refl
 
--- what `records` leaves of a piece
-pub piece-handled : (s : Slave) (number n : ℕ) (d p out out′ : List ℕ) (r : Piece) → p ≡ take n d
-    → Handled s number p out (handledIn (length p) (length out) number) out′ r
-    → Handled s number (take n d) out (handledIn (length (take n d)) (length out) number) out′ r
-piece-handled s number n d p out out′ r e h =
-    subst (λ (x : List ℕ). Handled s number x out (handledIn (length x) (length out) number) out′ r) e h
+-- what is used of a piece lies within it
+pub used-within : {s : Slave} {number : ℕ} {i out out′ : List ℕ} {p : Piece} → Handled s number i (handledIn (length i) (length out) number) out out′ p → p .used ≤ length i
+used-within {number = number} {i = i} {out = out} h = omega (arith, h .used, handled-bytes (length i) (length out) number)
+
+-- a piece in the first n bytes of a buffer is handled, and what is left of it carried to the front
+pub piece-taken : (n : ℕ) {s : Slave} {number e : ℕ} {d d′ out out′ : List ℕ} {p : Piece} {held : ℕ} → e ≡ min n (length d)
+    → Handled s number (take e d) (handledIn (length (take e d)) (length out) number) out out′ p
+    → Fronts (drop (p .used) (take e d)) d d′ held
+    → PieceTaken s number (take n d) (handledIn (length (take n d)) (length out) number) d d′ out out′
+    (record { slave = p .slave; number = p .number; filled = p .filled; held = held })
+piece-taken n {s} {number} {e} {d} {d′} {out} {out′} {p} least handled carried =
+    let same : take e d ≡ take n d = ap (λ (k : ℕ). take k d) least ∙ take-min n d in
+    let h = subst (λ (x : List ℕ). Handled s number x (handledIn (length x) (length out) number) out out′ p) same handled in
+    record { slave = h .slave; next = h .next; lines = h .lines; rest = refront (λ j. drop (h .used j) (same j)) carried }

@@ -1,14 +1,13 @@
 -- Document 01's example of a log, computed over the definitions.
--- Assumes nothing.
 use mathlib.Core.Path.{_≡_, refl}
 use mathlib.Core.List.{List, [], _∷_, _++_}
 use Prim.Native.Nat.{ℕ}
 use lib.ListN.{replicate}
 use Rattle.wire.specs.Standards.{syncByte}
 use Rattle.cadence.specs.Cadence.{atSomeRate, isMegaFrame, admits}
-use Rattle.limits.specs.Limits.{second, settingsKept, isZero, huntingFits, partsFit}
-use Rattle.slave.specs.Sound.{sound}
-use Rattle.judging.specs.Judge.{arrivalRefusal, judgePacket}
+use Rattle.state.specs.Profile.{second, settingsKept}
+use Rattle.state.specs.Sound.{isZero, isNothing, isUnset, huntingFits, partsFit, sound}
+use Rattle.judging.specs.Judge.{arrivalRefusal, carries, judgeArrived}
 use Rattle.slave.specs.Step.{unheard, counted, stepOf}
 use Rattle.slave.specs.Calls.{startOf, packetOf}
 use Rattle.text.specs.Decimal.{decimalIn, decimal}
@@ -33,5 +32,5 @@ printed =
     ++ (0x65 ∷ 0x6E ∷ 0x64 ∷ 0x20 ∷ 0x32 ∷ 0x0A ∷ [])
 
 pub example : logOf capture ≡ printed
-unfolding logOf openingOf begunBy startOf settingsKept admits isMegaFrame atSomeRate second restOf linesOf recordOf packetOf sound partsFit huntingFits isZero judgePacket arrivalRefusal stepOf counted unheard lineOf siteLine endLine decimal decimalIn
+unfolding logOf openingOf begunBy startOf settingsKept admits isMegaFrame atSomeRate second restOf linesOf recordOf packetOf sound partsFit huntingFits isUnset isNothing isZero arrivalRefusal judgeArrived carries stepOf counted unheard lineOf siteLine endLine decimal decimalIn
 example = refl

@@ -1,22 +1,18 @@
 -- A capture comes in pieces: how many records a call handles at once, and what it does with the bytes that are left at the end.
--- Assumes nothing.
 use mathlib.Core.Path.{_≡_}
 use Prim.Native.Nat.{ℕ, suc, _+_, _*_, _-_, _/_, min}
-use mathlib.Core.Bool.{cond, _&&_, _||_}
+use mathlib.Core.Bool.{cond, _||_}
 use mathlib.Core.List.{List, [], _∷_, _++_}
-use lib.Dec.{eqb, leb}
-use lib.ListN.{length, take, drop}
+use lib.Dec.{eqb}
+use lib.ListN.{length, drop}
 use Rattle.wire.specs.Reply.{refused}
+use Rattle.state.specs.declared.Slave.{Slave}
 use Rattle.text.specs.Line.{lineOf, endLine}
-use Rattle.slave.specs.declared.Slave.{Slave}
-use Rattle.lines.specs.Log.{recordLength, slaveAfter, linesOf}
+use Rattle.text.specs.Rooms.{lineRoom}
 use Rattle.text.specs.Puts.{Fronts}
+use Rattle.lines.specs.Log.{recordLength, slaveAfter, linesOf}
 use Rattle.lines.specs.declared.Piece.{Piece}
 use Rattle.lines.specs.declared.Held.{Held}
-
--- no line is longer
-abbrev pub lineRoom : ℕ
-lineRoom = 128
 
 -- a log's records are counted in 64 bits; it ends after so many
 abbrev pub mostRecords : ℕ
@@ -26,24 +22,19 @@ mostRecords = 18_446_744_073_709_551_615
 unfoldable pub handledIn : ℕ → ℕ → ℕ → ℕ
 handledIn bytes room number = min (bytes / recordLength) (min (room / lineRoom) (mostRecords - number))
 
--- what a call leaves that handles the first k records of an input
-pub record Handled (s : Slave) (number : ℕ) (i d : List ℕ) (k : ℕ) (d′ : List ℕ) (r : Piece) : Type 0 where
+-- what a call leaves that handles the first k records of an input: the slave, the next record's number and the lines
+pub record Handled (s : Slave) (number : ℕ) (i : List ℕ) (k : ℕ) (out out′ : List ℕ) (r : Piece) : Type 0 where
   pub slave : r .slave ≡ slaveAfter k s i
   pub next : r .number ≡ number + k
   pub used : r .used ≡ recordLength * k
-  pub lines : Fronts (linesOf k number s i) d d′ (r .filled)
+  pub lines : Fronts (linesOf k number s i) out out′ (r .filled)
 
--- the bytes from `from` to `to` moved to the front
-unfoldable pub carried : List ℕ → ℕ → ℕ → List ℕ
-carried d from to = cond (leb from to && leb to (length d)) (take (to - from) (drop from d) ++ drop (to - from) d) d
-
--- what a call leaves that handles the first k records of a piece in the first n bytes of its input d: what is left of the piece comes first
-pub record PieceTaken (s : Slave) (number n : ℕ) (d out : List ℕ) (k : ℕ) (d′ out′ : List ℕ) (r : Held) : Type 0 where
-  pub slave : r .slave ≡ slaveAfter k s (take n d)
+-- and where the input is a piece that stands in a buffer d: what is left of it stands at the front of d
+pub record PieceTaken (s : Slave) (number : ℕ) (i : List ℕ) (k : ℕ) (d d′ out out′ : List ℕ) (r : Held) : Type 0 where
+  pub slave : r .slave ≡ slaveAfter k s i
   pub next : r .number ≡ number + k
-  pub lines : Fronts (linesOf k number s (take n d)) out out′ (r .filled)
-  pub kept : d′ ≡ carried d (recordLength * k) (min n (length d))
-  pub held : r .held ≡ min n (length d) - recordLength * k
+  pub lines : Fronts (linesOf k number s i) out out′ (r .filled)
+  pub rest : Fronts (drop (recordLength * k) i) d d′ (r .held)
 
 -- the end: bytes that are left are a record cut short, and count
 unfoldable pub endingOf : ℕ → List ℕ → List ℕ

@@ -2,26 +2,31 @@
 use slave::Answer;
 use slave::Outcome;
 use slave::Shifted;
-use slave::Slave;
+use state::Board;
+use state::Slave;
 ghost use mathlib.Core.Path.{_≡_};
-ghost use Prim.Native.Nat.{min};
-ghost use lib.ListN.{length, take};
-ghost use Rattle.slave.specs.Answer.{outcomeOf};
-ghost use Rattle.text.specs.Line.{lineOf};
-ghost use Rattle.lines.specs.Log.{begunBy, openedBy, openingOf, recordOf};
+ghost use Prim.Native.Nat.{_≤_, min};
+ghost use lib.ListN.{length, take, drop};
+ghost use Rattle.slave.specs.Answer.{outcomeOf, shiftedOf};
 ghost use Rattle.text.specs.Puts.{Fronts};
-ghost use Rattle.lines.specs.Pieces.{handledIn, Handled, PieceTaken, endingOf, carried};
+ghost use Rattle.lines.specs.Log.{boardIn, begunBy, openedBy, openingOf};
+ghost use Rattle.lines.specs.Pieces.{handledIn, Handled, PieceTaken, endingOf};
+
+// The bytes of a capture's settings, and of a record with its tick: specs/Log.antt.
+pub const SETTINGS_LENGTH: usize = 9;
+
+const TICK_LENGTH: usize = 4;
+
+pub const RECORD_LENGTH: usize = TICK_LENGTH + wire::PACKET_LENGTH;
+
+// The most bytes of an opening, where the site line is the longest, and of an ending.
+pub const OPENING_ROOM: usize = text::SITE_ROOM;
+
+pub const ENDING_ROOM: usize = text::LINE_ROOM + text::END_ROOM;
 
 // What the settings at the front of a capture give, and how many bytes were written.
 pub struct Begun {
-    pub slave: Slave,
-    pub outcome: Outcome,
-    pub filled: usize,
-}
-
-// What one record leaves, and how many bytes were written.
-pub struct Lined {
-    pub slave: Slave,
+    pub started: Shifted,
     pub filled: usize,
 }
 
@@ -41,59 +46,52 @@ pub struct Held {
     pub held: usize,
 }
 
-// The site line where the slave was started, or the refusal alone.
-fn opened(started: Shifted, site: u16, n: u16, out: &mut [u8; 128]) -> Begun
-    ensures { λ r. ⌜ (r .slave ≡ started .slave) × (outcomeOf (r .outcome) ≡ outcomeOf (started .outcome)) × Fronts (openedBy site n (outcomeOf (started .outcome))) (now (out .entry)) (now (out .exit)) (r .filled) ⌝ }
+// The settings at the front of a capture; bytes that are missing read as 0.
+fn board_in(head: &[u8]) -> Board
+    ensures { λ r. ⌜ r ≡ boardIn (now (head .entry)) ⌝ }
 {
-    let s = started.slave;
-    let outcome = started.outcome;
-    match outcome {
-        Outcome::Done => Begun {
-            slave: s,
-            outcome: Outcome::Done,
-            filled: text::put_site(out, 0, site, n),
-        },
-        Outcome::Refused(k) => Begun {
-            slave: s,
-            outcome: Outcome::Refused(k),
-            filled: text::put_refusal(out, 0, k),
-        },
+    Board {
+        profile: wire::byte_at(head, 0),
+        n: wire::number16_at(head, 1),
+        site: wire::number16_at(head, 3),
+        tad: wire::number32_at(head, 5),
     }
 }
 
-// Starts a slave by the settings, and writes the site line, or the refusal alone. Short settings are refused as site 0 is.
-pub fn begin(head: &[u8], out: &mut [u8; 128]) -> Begun
-    ensures { λ r. ⌜ (r .slave ≡ begunBy (now (head .entry)) .slave) × (outcomeOf (r .outcome) ≡ begunBy (now (head .entry)) .reply) × Fronts (openingOf (now (head .entry))) (now (out .entry)) (now (out .exit)) (r .filled) ⌝ }
+// The start that the settings ask for. 15 where they are short.
+fn begun_by(head: &[u8]) -> Shifted
+    ensures { λ r. ⌜ shiftedOf r ≡ begunBy (now (head .entry)) ⌝ }
 {
-    if head.len() < 9 {
-        return opened(slave::start(0, 0, 0, 0), 0, 0, out);
-    }
-    let profile = head[0];
-    let n = wire::number16(head[1], head[2]);
-    let site = wire::number16(head[3], head[4]);
-    let tad = wire::number32(head[5], head[6], head[7], head[8]);
-    opened(slave::start(profile, n, site, tad), site, n, out)
-}
-
-// The line of one record, whole or cut short.
-pub fn record_line(s: Slave, number: u64, bytes: &[u8], out: &mut [u8; 128]) -> Lined
-    ensures { λ r. ⌜ (r .slave ≡ recordOf s (now (bytes .entry)) .slave) × Fronts (lineOf number (recordOf s (now (bytes .entry)) .reply)) (now (out .entry)) (now (out .exit)) (r .filled) ⌝ }
-{
-    if bytes.len() != 192 {
-        let end = text::put_line(out, 0, number, Answer::Refused(1));
-        return Lined {
-            slave: s,
-            filled: end,
+    if head.len() < SETTINGS_LENGTH {
+        return Shifted {
+            slave: state::cold_slave(),
+            outcome: Outcome::Refused(15),
         };
     }
-    let tick = wire::number32(bytes[0], bytes[1], bytes[2], bytes[3]);
-    let r = slave::packet(s, &bytes[4..], tick);
-    let after = r.slave;
-    let answer = r.answer;
-    let end = text::put_line(out, 0, number, answer);
-    Lined {
-        slave: after,
-        filled: end,
+    slave::start(board_in(head))
+}
+
+// The site line where the slave was started, or the refusal alone.
+fn put_opening(b: Board, outcome: Outcome, out: &mut [u8; OPENING_ROOM]) -> usize
+    ensures { λ r. ⌜ Fronts (openedBy b (outcomeOf outcome)) (now (out .entry)) (now (out .exit)) r ⌝ }
+{
+    match outcome {
+        Outcome::Done => text::put_site(out, 0, b.site, b.n),
+        Outcome::Refused(k) => text::put_refusal(out, 0, k),
+    }
+}
+
+// Starts a slave by the settings, and writes the site line, or the refusal alone.
+pub fn begin(head: &[u8], out: &mut [u8; OPENING_ROOM]) -> Begun
+    ensures { λ r. ⌜ (shiftedOf (r .started) ≡ begunBy (now (head .entry))) × Fronts (openingOf (now (head .entry))) (now (out .entry)) (now (out .exit)) (r .filled) ⌝ }
+{
+    let started = begun_by(head);
+    let outcome = started.outcome;
+    let board = board_in(head);
+    let filled = put_opening(board, outcome, out);
+    Begun {
+        started: started,
+        filled: filled,
     }
 }
 
@@ -111,12 +109,15 @@ fn least(a: usize, b: usize) -> usize
 fn handled(bytes: usize, room: usize, number: u64) -> usize
     ensures { λ r. ⌜ r ≡ handledIn bytes room number ⌝ }
 {
-    least(bytes / 192, least(room / 128, (u64::MAX - number) as usize))
+    least(
+        bytes / RECORD_LENGTH,
+        least(room / text::LINE_ROOM, (u64::MAX - number) as usize),
+    )
 }
 
 // The lines of as many records as are whole and have room.
 fn records(s: Slave, number: u64, input: &[u8], out: &mut [u8]) -> Piece
-    ensures { λ r. ⌜ Handled s number (now (input .entry)) (now (out .entry)) (handledIn (length (now (input .entry))) (length (now (out .entry))) number) (now (out .exit)) r ⌝ }
+    ensures { λ r. ⌜ Handled s number (now (input .entry)) (handledIn (length (now (input .entry))) (length (now (out .entry))) number) (now (out .entry)) (now (out .exit)) r ⌝ }
 {
     let whole = handled(input.len(), out.len(), number);
     let mut after = s;
@@ -125,15 +126,10 @@ fn records(s: Slave, number: u64, input: &[u8], out: &mut [u8]) -> Piece
     let mut end = 0;
     let mut done = 0;
     while done < whole {
-        let from = used + 4;
-        let to = used + 192;
-        let tick = wire::number32(
-            input[used],
-            input[used + 1],
-            input[used + 2],
-            input[used + 3],
-        );
-        let r = slave::packet(after, &input[from..to], tick);
+        let to = used + RECORD_LENGTH;
+        let bytes = &input[used..to];
+        let tick = wire::number32_at(bytes, 0);
+        let r = slave::packet(after, &bytes[TICK_LENGTH..], tick);
         let answer = r.answer;
         end = text::put_line(out, end, next, answer);
         after = r.slave;
@@ -149,26 +145,41 @@ fn records(s: Slave, number: u64, input: &[u8], out: &mut [u8]) -> Piece
     }
 }
 
+// Moves the bytes from `from` to `to` to the front, and answers how many they are.
+fn carry(buf: &mut [u8], from: usize, to: usize) -> usize
+    requires { ⌜ (from ≤ to) × (to ≤ length (now buf)) ⌝ }
+    ensures { λ r. ⌜ Fronts (drop from (take to (now (buf .entry)))) (now (buf .entry)) (now (buf .exit)) r ⌝ }
+{
+    let mut i = from;
+    let mut k = 0;
+    while i < to {
+        buf[k] = buf[i];
+        i += 1;
+        k += 1;
+    }
+    k
+}
+
 // A piece of a capture stands in the first n bytes of the input: writes the lines of its whole records, and moves what is left of it to the
 // front. An n beyond the input is the whole input.
 pub fn take_piece(s: Slave, number: u64, n: usize, input: &mut [u8], out: &mut [u8]) -> Held
-    ensures { λ r. ⌜ PieceTaken s number n (now (input .entry)) (now (out .entry)) (handledIn (length (take n (now (input .entry)))) (length (now (out .entry))) number) (now (input .exit)) (now (out .exit)) r ⌝ }
+    ensures { λ r. ⌜ PieceTaken s number (take n (now (input .entry))) (handledIn (length (take n (now (input .entry)))) (length (now (out .entry))) number) (now (input .entry)) (now (input .exit)) (now (out .entry)) (now (out .exit)) r ⌝ }
 {
     let end = least(n, input.len());
     let p = records(s, number, &input[..end], out);
     let after = p.slave;
     let used = p.used;
-    carry(input, used, end);
+    let held = carry(input, used, end);
     Held {
         slave: after,
         number: p.number,
         filled: p.filled,
-        held: end - used,
+        held: held,
     }
 }
 
 // The end of a capture: bytes that are left are a record cut short, and the end line counts it.
-pub fn ending(number: u64, rest: &[u8], out: &mut [u8; 192]) -> usize
+pub fn ending(number: u64, rest: &[u8], out: &mut [u8; ENDING_ROOM]) -> usize
     ensures { λ r. ⌜ Fronts (endingOf number (now (rest .entry))) (now (out .entry)) (now (out .exit)) r ⌝ }
 {
     if rest.len() == 0 {
@@ -179,23 +190,4 @@ pub fn ending(number: u64, rest: &[u8], out: &mut [u8; 192]) -> usize
     }
     let line = text::put_line(out, 0, number, Answer::Refused(1));
     text::put_end(out, line, number + 1)
-}
-
-// Moves the bytes from `from` to `to` to the front; nothing where there are no such bytes.
-fn carry(buf: &mut [u8], from: usize, to: usize)
-    ensures { λ _. ⌜ now (buf .exit) ≡ carried (now (buf .entry)) from to ⌝ }
-{
-    if buf.len() < to {
-        return;
-    }
-    if to < from {
-        return;
-    }
-    let mut i = from;
-    let mut k = 0;
-    while i < to {
-        buf[k] = buf[i];
-        i += 1;
-        k += 1;
-    }
 }

@@ -2,10 +2,17 @@
 use libc::STDIN_FILENO;
 use libc::STDOUT_FILENO;
 use slave::Outcome;
-use slave::Slave;
+use state::Slave;
 ghost use mathlib.Core.Path.{_≡_};
 ghost use Prim.Native.Nat.{_≤_};
 ghost use lib.ListN.{length};
+
+// The buffers' records, and room for them and for their lines.
+const RECORDS: usize = 1024;
+
+const INPUT_ROOM: usize = RECORDS * lines::RECORD_LENGTH;
+
+const OUTPUT_ROOM: usize = RECORDS * text::LINE_ROOM;
 
 // Where the log stands: the slave, the next record's number, and how many bytes at the front of the input are still to be used.
 struct Place {
@@ -14,20 +21,6 @@ struct Place {
     held: usize,
     more: bool,
     failed: bool,
-}
-
-// Room for 1,024 records.
-fn input_buffer() -> [u8; 196608]
-    ensures { λ r. ⌜ 196608 ≡ length r ⌝ }
-{
-    [0; 196608]
-}
-
-// Room for their lines.
-fn output_buffer() -> [u8; 131072]
-    ensures { λ r. ⌜ 131072 ≡ length r ⌝ }
-{
-    [0; 131072]
 }
 
 // Writes bytes to standard output, or says why it cannot.
@@ -84,7 +77,7 @@ fn turn(at: Place, input: &mut [u8], output: &mut [u8]) -> Place
 
 // The end: what is left is a record cut short.
 fn close(number: u64, rest: &[u8]) {
-    let mut last = [0u8; 192];
+    let mut last = [0u8; lines::ENDING_ROOM];
     let end = lines::ending(number, rest, &mut last);
     write(&last[..end]);
 }
@@ -111,16 +104,17 @@ fn follow(s: Slave, input: &mut [u8], output: &mut [u8]) {
 }
 
 fn main() {
-    let mut head = [0u8; 9];
+    let mut head = [0u8; lines::SETTINGS_LENGTH];
     let n = io::read_full(STDIN_FILENO, &mut head);
-    let mut opening = [0u8; 128];
+    let mut opening = [0u8; lines::OPENING_ROOM];
     let b = lines::begin(&head[..n], &mut opening);
     let filled = b.filled;
-    let outcome = b.outcome;
-    let s = b.slave;
+    let started = b.started;
+    let outcome = started.outcome;
+    let s = started.slave;
     if write(&opening[..filled]) {
-        let mut input = input_buffer();
-        let mut output = output_buffer();
+        let mut input = [0u8; INPUT_ROOM];
+        let mut output = [0u8; OUTPUT_ROOM];
         match outcome {
             Outcome::Done => follow(s, &mut input, &mut output),
             Outcome::Refused(_) => {}

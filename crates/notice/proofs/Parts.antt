@@ -1,38 +1,22 @@
--- The addressing field as a part of the bytes that the code takes out.
--- Assumes nothing.
+-- The addressing field as a part of any bytes: bytes that end before it, inside it and behind it.
 use mathlib.Core.Path.{_≡_, sym, ap, _∙_}
 use mathlib.Core.List.{List, []}
-use Prim.Native.Nat.{ℕ, _+_, _-_, _≤_, _<_}
+use Prim.Native.Nat.{ℕ, _+_, _-_, _<_}
 use native.Mathlib.Omega.{arith}
-use lib.ListN.{length, take, drop, getD}
-use lib.Dec.{leb}
-use borrow.Author.Tests.{le-leb, lt-leb}
-use Rattle.notice.specs.Mip.{addressingField}
-use Rattle.notice.specs.Long.{Framed}
-use Rattle.notice.specs.Reader.{addressingPart}
+use lib.ListN.{length, take, drop, length-drop, drop-of-length-le}
+use lib.Seq.{take-all, take-nil}
+use Rattle.notice.specs.Mip.{individualAddressingLength, addressingField}
 
 module _ (s : List ℕ) where
-  part : (a : ℕ) → a ≡ getD s 20 0 → take (21 + a - 21) (drop 21 s) ≡ addressingField s
-  part a e =
-      let k : 21 + a - 21 ≡ getD s 20 0 = omega arith in
+  pub part-none : length s < 21 → [] ≡ addressingField s
+  part-none h = sym (ap (take (individualAddressingLength s)) (drop-of-length-le s {i = 21} (omega arith)) ∙ take-nil (individualAddressingLength s))
+
+  pub part-cut : length s < 21 + individualAddressingLength s → take (length s - 21) (drop 21 s) ≡ addressingField s
+  part-cut h =
+      let l = length-drop 21 s in
+      take-all (length s - 21) (drop 21 s) (omega arith) ∙ sym (take-all (individualAddressingLength s) (drop 21 s) (omega arith))
+
+  pub part-whole : (a : ℕ) → a ≡ individualAddressingLength s → take (21 + a - 21) (drop 21 s) ≡ addressingField s
+  part-whole a e =
+      let k : 21 + a - 21 ≡ individualAddressingLength s = omega arith in
       ap (λ (n : ℕ). take n (drop 21 s)) k
-
-  pub part-short : length s < 21 → [] ≡ addressingPart s
-  unfolding addressingPart
-  part-short h =
-      let o : length s < 21 + getD s 20 0 = omega arith in
-      rw (lt-leb (21 + getD s 20 0) (length s) o)
-
-  module _ (a : ℕ) (e : a ≡ getD s 20 0) where
-    pub part-over : length s < 21 + a → [] ≡ addressingPart s
-    unfolding addressingPart
-    part-over h = rw (← e, lt-leb (21 + a) (length s) h)
-
-    pub part-whole : 21 + a ≤ length s → take (21 + a - 21) (drop 21 s) ≡ addressingPart s
-    unfolding addressingPart
-    part-whole h = part a e ∙ sym (rw (← e, le-leb (21 + a) (length s) h))
-
-  -- where the lengths are right, the part is the field
-  pub framed-part : Framed s → addressingPart s ≡ addressingField s
-  unfolding addressingPart
-  framed-part f = rw (le-leb (21 + getD s 20 0) (length s) (omega (arith, f .long, f .room)))

@@ -1,4 +1,3 @@
 -- The definitions of crate `notice`, in reading order.
 pub mod Mip
-pub mod Long
 pub mod Reader

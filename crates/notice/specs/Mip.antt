@@ -1,15 +1,18 @@
 -- The fields of the Mega-frame Initialization Packet, TS 101 191 table 1, in the order in which they stand in its 188 bytes.
--- Assumes nothing.
 use Prim.Native.Nat.{ℕ, _+_, _/_, _%_}
 use mathlib.Core.Bool.{Bool}
 use mathlib.Core.List.{List}
 use lib.ListN.{getD, take, drop}
 use lib.Dec.{leb}
+use Rattle.wire.specs.Standards.{addressingStart, checkLength}
 use Rattle.wire.specs.BigEndian.{be16At, be24At, be32At}
 use Rattle.times.specs.declared.Steps.{Steps}
 use Rattle.notice.specs.declared.Notice.{Notice}
 
 -- transport_packet_header (ISO/IEC 13818-1, 2.4.3.2)
+abbrev pub sync : List ℕ → ℕ
+sync s = getD s 0 0
+
 abbrev pub errorIndicator : List ℕ → ℕ
 errorIndicator s = getD s 1 0 / 128
 
@@ -52,17 +55,17 @@ tpsMip s = be32At s 16
 abbrev pub individualAddressingLength : List ℕ → ℕ
 individualAddressingLength s = getD s 20 0
 
--- the addressing field, from byte 21 on
+-- the addressing field; of bytes that end early, what is there
 abbrev pub addressingField : List ℕ → List ℕ
-addressingField s = take (individualAddressingLength s) (drop 21 s)
+addressingField s = take (individualAddressingLength s) (drop addressingStart s)
 
 -- all bytes through crc_32, which leave zero; what follows is stuffing
 abbrev pub throughCheck : List ℕ → List ℕ
-throughCheck s = take (25 + individualAddressingLength s) s
+throughCheck s = take (addressingStart + checkLength + individualAddressingLength s) s
 
 -- what a notice says
-abbrev pub noticeOf : List ℕ → Notice
-noticeOf s = record {
+abbrev pub noticeIn : List ℕ → Notice
+noticeIn s = record {
   continuity = continuityCounter s;
   pointer = pointer s;
   periodic = periodicFlag s;

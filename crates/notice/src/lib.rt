@@ -1,12 +1,10 @@
-// The Mega-frame Initialization Packet, TS 101 191 clause 6, read from any bytes.
+// The Mega-frame Initialization Packet, TS 101 191 clause 6, read from any bytes: each field of table 1, and the notice.
 use times::Steps;
+use wire::ADDRESSING_START;
 ghost use mathlib.Core.Path.{_≡_};
-ghost use mathlib.Core.List.{_++_};
-ghost use Prim.Native.Nat.{_+_, _-_, _≤_};
-ghost use lib.ListN.{length, take, drop};
-ghost use Rattle.notice.specs.Mip.{noticeOf};
-ghost use Rattle.notice.specs.Reader.{packetRefusal, headRefusal, bodyRefusal, readRefusal, readOf, readingReply, addressingPart, addressingOf};
-ghost use Rattle.notice.specs.Long.{Long, Framed};
+ghost use Rattle.check_value.specs.Register.{register};
+ghost use Rattle.notice.specs.Mip.{sync, errorIndicator, unitStartAndPriority, packetIdentifier, scramblingAndAdaptation, continuityCounter, synchronizationId, sectionLength, pointer, periodicFlag, futureUse, synchronizationTimeStamp, maximumDelay, tpsMip, individualAddressingLength, addressingField, throughCheck, noticeIn};
+ghost use Rattle.notice.specs.Reader.{packetRefusal, sectionRefusal, bodyRefusal, readRefusal, readOf, readingReply};
 
 // What a notice says beside its addressing field.
 #[repr(C)]
@@ -26,74 +24,179 @@ pub enum Reading {
     Refused(u8),
 }
 
+// The fields of table 1, in its order, each as its definition in specs/Mip.antt says; bytes beyond the end read as 0.
+fn sync(p: &[u8]) -> u8
+    ensures { λ r. ⌜ r ≡ sync (now (p .entry)) ⌝ }
+{
+    wire::byte_at(p, 0)
+}
+
+pub fn error_indicator(p: &[u8]) -> u8
+    ensures { λ r. ⌜ r ≡ errorIndicator (now (p .entry)) ⌝ }
+{
+    wire::byte_at(p, 1) / 128
+}
+
+fn unit_start_and_priority(p: &[u8]) -> u8
+    ensures { λ r. ⌜ r ≡ unitStartAndPriority (now (p .entry)) ⌝ }
+{
+    wire::byte_at(p, 1) / 32 % 4
+}
+
+pub fn packet_identifier(p: &[u8]) -> u16
+    ensures { λ r. ⌜ r ≡ packetIdentifier (now (p .entry)) ⌝ }
+{
+    wire::number16_at(p, 1) % 8192
+}
+
+fn scrambling_and_adaptation(p: &[u8]) -> u8
+    ensures { λ r. ⌜ r ≡ scramblingAndAdaptation (now (p .entry)) ⌝ }
+{
+    wire::byte_at(p, 3) / 16
+}
+
+fn continuity_counter(p: &[u8]) -> u8
+    ensures { λ r. ⌜ r ≡ continuityCounter (now (p .entry)) ⌝ }
+{
+    wire::byte_at(p, 3) % 16
+}
+
+fn synchronization_id(p: &[u8]) -> u8
+    ensures { λ r. ⌜ r ≡ synchronizationId (now (p .entry)) ⌝ }
+{
+    wire::byte_at(p, 4)
+}
+
+fn section_length(p: &[u8]) -> u8
+    ensures { λ r. ⌜ r ≡ sectionLength (now (p .entry)) ⌝ }
+{
+    wire::byte_at(p, 5)
+}
+
+pub fn pointer(p: &[u8]) -> u16
+    ensures { λ r. ⌜ r ≡ pointer (now (p .entry)) ⌝ }
+{
+    wire::number16_at(p, 6)
+}
+
+fn periodic_flag(p: &[u8]) -> bool
+    ensures { λ r. ⌜ r ≡ periodicFlag (now (p .entry)) ⌝ }
+{
+    wire::byte_at(p, 8) >= 128
+}
+
+fn future_use(p: &[u8]) -> u16
+    ensures { λ r. ⌜ r ≡ futureUse (now (p .entry)) ⌝ }
+{
+    wire::number16_at(p, 8) % 32768
+}
+
+pub fn synchronization_time_stamp(p: &[u8]) -> Steps
+    ensures { λ r. ⌜ r ≡ synchronizationTimeStamp (now (p .entry)) ⌝ }
+{
+    Steps(wire::number24_at(p, 10))
+}
+
+pub fn maximum_delay(p: &[u8]) -> Steps
+    ensures { λ r. ⌜ r ≡ maximumDelay (now (p .entry)) ⌝ }
+{
+    Steps(wire::number24_at(p, 13))
+}
+
+fn tps_mip(p: &[u8]) -> u32
+    ensures { λ r. ⌜ r ≡ tpsMip (now (p .entry)) ⌝ }
+{
+    wire::number32_at(p, 16)
+}
+
+fn individual_addressing_length(p: &[u8]) -> u8
+    ensures { λ r. ⌜ r ≡ individualAddressingLength (now (p .entry)) ⌝ }
+{
+    wire::byte_at(p, 20)
+}
+
+// The addressing field as a part of the caller's bytes; of bytes that end early, what is there.
+pub fn addressing_part(p: &[u8]) -> &[u8]
+    ensures { λ r. ⌜ now r ≡ addressingField (now (p .entry)) ⌝ }
+{
+    if p.len() < ADDRESSING_START {
+        return &p[..0];
+    }
+    let end = ADDRESSING_START + individual_addressing_length(p) as usize;
+    if p.len() < end {
+        return &p[ADDRESSING_START..];
+    }
+    &p[ADDRESSING_START..end]
+}
+
+// The check value's register after all bytes through crc_32.
+fn check_left(p: &[u8]) -> u32
+    ensures { λ r. ⌜ r ≡ register (throughCheck (now (p .entry))) ⌝ }
+{
+    let through = ADDRESSING_START + wire::CHECK_LENGTH + individual_addressing_length(p) as usize;
+    if p.len() < through {
+        return check_value::register_of(p);
+    }
+    check_value::register_of(&p[..through])
+}
+
 // 1, 2, 4 or 5, or 0 for none.
 fn packet_refusal(p: &[u8]) -> u8
     ensures { λ r. ⌜ r ≡ packetRefusal (now (p .entry)) ⌝ }
 {
-    if p.len() != 188 {
+    if p.len() != wire::PACKET_LENGTH {
         return 1;
     }
-    let sync = p[0];
-    if sync != 0x47 {
+    if sync(p) != wire::SYNC_BYTE {
         return 2;
     }
-    let error = p[1] / 128;
-    if error != 0 {
+    if error_indicator(p) != 0 {
         return 4;
     }
-    let pid = wire::number16(p[1], p[2]) % 8192;
-    if pid != 0x15 {
+    if packet_identifier(p) != wire::MIP_PID {
         return 5;
     }
     0
 }
 
-// 6, 7 or 8, or 0 for none.
-fn head_refusal(p: &[u8]) -> u8
-    requires { ⌜ Long (now p) ⌝ }
-    ensures { λ r. ⌜ r ≡ headRefusal (now (p .entry)) ⌝ }
+// 6 to 9, or 0 for none.
+pub fn section_refusal(p: &[u8]) -> u8
+    ensures { λ r. ⌜ r ≡ sectionRefusal (now (p .entry)) ⌝ }
 {
-    let start = p[1] / 32 % 4;
-    if start != 3 {
+    if unit_start_and_priority(p) != 3 {
         return 6;
     }
-    let control = p[3] / 16;
-    if control != 1 {
+    if scrambling_and_adaptation(p) != 1 {
         return 6;
     }
-    let id = p[4];
-    if id != 0 {
+    if synchronization_id(p) != 0 {
         return 7;
     }
-    let a = p[20];
-    if a > 163 {
+    let a = individual_addressing_length(p) as usize;
+    if a > wire::LONGEST_ADDRESSING {
         return 8;
     }
-    let section = p[5];
-    if section != 19 + a {
+    if section_length(p) as usize != wire::SECTION_BESIDE + a {
         return 8;
+    }
+    let rest = check_left(p);
+    if rest != 0 {
+        return 9;
     }
     0
 }
 
-// 9, 10 or 11, or 0 for none.
+// 10 or 11, or 0 for none.
 fn body_refusal(p: &[u8]) -> u8
-    requires { ⌜ Framed (now p) ⌝ }
     ensures { λ r. ⌜ r ≡ bodyRefusal (now (p .entry)) ⌝ }
 {
-    let a = wire::wide(p[20]);
-    let end = 25 + a;
-    let rest = check_value::register_of(&p[..end]);
-    if rest != 0 {
-        return 9;
-    }
     if !addressing::well_formed(addressing_part(p)) {
         return 10;
     }
-    if !times::dvb_in_second(Steps(wire::number24(p[10], p[11], p[12]))) {
+    if !times::dvb_in_second(synchronization_time_stamp(p)) {
         return 11;
     }
-    if !times::dvb_in_second(Steps(wire::number24(p[13], p[14], p[15]))) {
+    if !times::dvb_in_second(maximum_delay(p)) {
         return 11;
     }
     0
@@ -107,7 +210,7 @@ fn read_refusal(p: &[u8]) -> u8
     if first != 0 {
         return first;
     }
-    let second = head_refusal(p);
+    let second = section_refusal(p);
     if second != 0 {
         return second;
     }
@@ -116,17 +219,18 @@ fn read_refusal(p: &[u8]) -> u8
 
 // The fields of a packet.
 fn notice_in(p: &[u8]) -> Notice
-    requires { ⌜ Long (now p) ⌝ }
-    ensures { λ r. ⌜ r ≡ noticeOf (now (p .entry)) ⌝ }
+    ensures { λ r. ⌜ r ≡ noticeIn (now (p .entry)) ⌝ }
 {
+    let sts = synchronization_time_stamp(p);
+    let md = maximum_delay(p);
     Notice {
-        continuity: p[3] % 16,
-        pointer: wire::number16(p[6], p[7]),
-        periodic: p[8] >= 128,
-        reserved: wire::number16(p[8], p[9]) % 32768,
-        sts: Steps(wire::number24(p[10], p[11], p[12])),
-        md: Steps(wire::number24(p[13], p[14], p[15])),
-        tps: wire::number32(p[16], p[17], p[18], p[19]),
+        continuity: continuity_counter(p),
+        pointer: pointer(p),
+        periodic: periodic_flag(p),
+        reserved: future_use(p),
+        sts,
+        md,
+        tps: tps_mip(p),
     }
 }
 
@@ -139,30 +243,4 @@ pub fn read_notice(p: &[u8]) -> Reading
         return Reading::Refused(number);
     }
     Reading::Accepted(notice_in(p))
-}
-
-// The addressing field of a packet that the reader accepts, as a part of the caller's bytes; empty for any other.
-pub fn addressing_of(p: &[u8]) -> &[u8]
-    ensures { λ r. ⌜ now r ≡ addressingOf (now (p .entry)) ⌝ }
-{
-    let first = read_refusal(p);
-    if first != 0 {
-        return &p[..0];
-    }
-    addressing_part(p)
-}
-
-// Bytes 21 to 21 + a, as a part of the caller's bytes, judging nothing: what addressing_of gives for a packet already accepted.
-// Empty where the bytes are too few.
-pub fn addressing_part(p: &[u8]) -> &[u8]
-    ensures { λ r. ⌜ now r ≡ addressingPart (now (p .entry)) ⌝ }
-{
-    if p.len() < 21 {
-        return &p[..0];
-    }
-    let end = 21 + wire::wide(p[20]);
-    if p.len() < end {
-        return &p[..0];
-    }
-    &p[21..end]
 }

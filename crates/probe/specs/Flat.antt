@@ -1,26 +1,14 @@
 -- The answers of the calls as plain numbers: the paper's number, 0 for none, and the values, all 0 where a number refuses.
--- Assumes nothing.
 use Prim.Native.Nat.{ℕ}
 use lib.IntN.{pos}
 use Rattle.wire.specs.Reply.{Reply, refused, given}
-use Rattle.times.specs.Release.{Times}
 use Rattle.addressing.specs.declared.Settings.{Settings}
 use Rattle.probe.specs.declared.ProbeSettings.{ProbeSettings}
-use Rattle.probe.specs.declared.ProbeTimes.{ProbeTimes}
 use Rattle.probe.specs.declared.ProbeLabel.{ProbeLabel}
 
 abbrev pub flatSettings : Reply Settings → ProbeSettings
 flatSettings (refused k) = record { number = k; od = pos 0; frequency = pos 0; power = 0 }
 flatSettings (given t) = record { number = 0; od = t .od; frequency = t .frequency; power = t .power }
-
-abbrev pub noTimes : ℕ → ProbeTimes
-noTimes k = record { number = k; reference = 0; emission = 0; modulation = 0; wait = pos 0 }
-
-abbrev pub flatTimes : Reply (Reply Times) → ProbeTimes
-flatTimes (refused k) = noTimes k
-flatTimes (given (refused k)) = noTimes k
-flatTimes (given (given t)) =
-    record { number = 0; reference = t .reference; emission = t .emission; modulation = t .modulation; wait = t .wait }
 
 abbrev pub flatLabel : Reply ℕ → ProbeLabel
 flatLabel (refused k) = record { number = k; value = 0 }

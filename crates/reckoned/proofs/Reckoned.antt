@@ -1,12 +1,10 @@
 -- The reckoned examples hold: one statement about the definitions, computed over the whole table.
--- Assumes nothing.
-use mathlib.Core.Path.{_≡_, refl}
-use mathlib.Core.Bool.{true}
+use mathlib.Core.Path.{refl}
 use Rattle.check_value.specs.Register.{bitIn, bitsIn, registerFrom, register}
-use Rattle.times.specs.Release.{wrap, modulation, linkDelay, markOf}
+use Rattle.times.specs.Release.{wrap, modulation, linkDelay, dueOf}
 use Rattle.slave.specs.Gap.{gapped}
-use Rattle.reckoned.specs.Table.{table, holds}
+use Rattle.reckoned.specs.Table.{table, Holds}
 
-pub reckoned : holds table ≡ true
-unfolding table bitIn bitsIn registerFrom register wrap modulation linkDelay markOf gapped
+pub reckoned : Holds table
+unfolding table bitIn bitsIn registerFrom register wrap modulation linkDelay dueOf gapped
 reckoned = refl

@@ -1,35 +1,44 @@
--- The reckoned examples of document 01, each with what the definitions give for it and what the paper says.
--- Assumes nothing.
+-- The reckoned examples of document 01, each with what the definitions compute for it and what the paper states.
 use Prim.Native.Nat.{ℕ}
-use mathlib.Core.Bool.{Bool, true, false, _&&_}
-use mathlib.Core.List.{List, [], _∷_}
-use lib.Dec.{eqb}
+use mathlib.Core.Path.{_≡_}
+use mathlib.Core.List.{List, [], _∷_, map}
 use lib.IntN.{ℤ, pos, negsuc}
-use Rattle.wire.specs.Reply.{numberOf}
 use Rattle.wire.specs.Standards.{dvbSecond, a110Second}
 use Rattle.check_value.specs.Register.{register}
-use Rattle.times.specs.Release.{emission, modulation, waitOf, markOf}
+use Rattle.times.specs.Release.{emission, modulation, waitOf, dueOf}
 use Rattle.cadence.specs.Cadence.{lengthOf}
 use Rattle.cadence.specs.Label.{labelOf}
 use Rattle.cadence.specs.MobileFrame.{mobilePlace}
 use Rattle.cadence.specs.declared.Constellation.the-variants.{Qam64}
 use Rattle.cadence.specs.declared.CodeRate.the-variants.{SevenEighths}
+use Rattle.addressing.specs.Functions.{noSettings}
+use Rattle.state.specs.Slave.{unknown}
+use Rattle.state.specs.declared.Slave.{Slave}
+use Rattle.slave.specs.Answer.{due, markNumber}
 use Rattle.slave.specs.Gap.{gapped}
-use Rattle.slave.specs.declared.Slave.{Slave}
 
--- an example's number, the values that the definitions give, and those that the paper says
+-- an example's number, the values that the definitions compute, and those that the paper states
 pub record Example : Type 0 where
   pub number : ℕ
-  pub given : List ℤ
-  pub said : List ℤ
+  pub computed : List ℤ
+  pub stated : List ℤ
 
 abbrev pub example : ℕ → List ℤ → List ℤ → Example
-example k g s = record { number = k; given = g; said = s }
+example k c s = record { number = k; computed = c; stated = s }
 
--- a locked slave of profile 0 before the mark, with a pending notice
-abbrev pub pending : Slave
-pending =
-    record { phase = 2; profile = 0; n = 2016; site = 7; tad = 0; od = pos 0; frequency = pos 0; power = 0; next = 2010; pending = 1; index = 255; sts = 9_500_000; md = 700_000 }
+-- the number of P3's mark, of STS 9,500,000 and MD 700,000, that comes at this tick: 14 where it is late
+abbrev pub numberAt : ℕ → ℕ
+numberAt arrival = markNumber (due 0 (dueOf dvbSecond 9_500_000 700_000 (pos 0) 0 arrival))
+
+-- P8's slave: profile 0, n 2016, next label 2010, with a pending notice
+abbrev pub nearMark : Slave
+nearMark =
+    record {
+      board = record { profile = 0; n = 2016; site = 7; tad = 0 };
+      settings = noSettings;
+      count = record { phase = 2; next = 2010; index = unknown };
+      waiting = record { pending = 1; sts = 9_500_000; md = 700_000 };
+    }
 
 unfoldable pub table : List Example
 table =
@@ -43,7 +52,7 @@ table =
     (pos 0 ∷ [])
     -- arrival 200,001: late, 14, where 200,000 was not
     ∷ example 3
-    (pos (numberOf (markOf dvbSecond 9_500_000 700_000 (pos 0) 0 200_001)) ∷ pos (numberOf (markOf dvbSecond 9_500_000 700_000 (pos 0) 0 200_000)) ∷ [])
+    (pos (numberAt 200_001) ∷ pos (numberAt 200_000) ∷ [])
     (pos 14 ∷ pos 0 ∷ [])
     -- STS 9,300,000, MD 700,000, OD 0: emission
     ∷ example 4
@@ -63,7 +72,7 @@ table =
     (pos 2015 ∷ pos 0 ∷ [])
     -- n 2016, next label 2010, a pending notice; gaps of 6 and 7: next label and pending
     ∷ example 8
-    (pos (gapped pending 6 .next) ∷ pos (gapped pending 6 .pending) ∷ pos (gapped pending 7 .next) ∷ pos (gapped pending 7 .pending) ∷ [])
+    (pos (gapped nearMark 6 .count .next) ∷ pos (gapped nearMark 6 .waiting .pending) ∷ pos (gapped nearMark 7 .count .next) ∷ pos (gapped nearMark 7 .waiting .pending) ∷ [])
     (pos 0 ∷ pos 1 ∷ pos 1 ∷ pos 0 ∷ [])
     -- 64-QAM 7/8: n
     ∷ example 9
@@ -79,20 +88,6 @@ table =
     (pos 0x0376_E6E7 ∷ [])
     ∷ []
 
--- two lists of numbers are the same
-abbrev pub sameNumber : ℤ → ℤ → Bool
-sameNumber (pos a) (pos b) = eqb a b
-sameNumber (pos a) (negsuc b) = false
-sameNumber (negsuc a) (pos b) = false
-sameNumber (negsuc a) (negsuc b) = eqb a b
-
-abbrev pub sameNumbers : List ℤ → List ℤ → Bool
-sameNumbers [] [] = true
-sameNumbers [] (y ∷ ys) = false
-sameNumbers (x ∷ xs) [] = false
-sameNumbers (x ∷ xs) (y ∷ ys) = sameNumber x y && sameNumbers xs ys
-
--- every example of a table gives what it says
-abbrev pub holds : List Example → Bool
-holds [] = true
-holds (e ∷ es) = sameNumbers (e .given) (e .said) && holds es
+-- in every example of a table the paper states what is computed
+abbrev pub Holds : List Example → Type 0
+Holds t = map (λ (e : Example). e .computed) t ≡ map (λ (e : Example). e .stated) t

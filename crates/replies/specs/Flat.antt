@@ -1,18 +1,20 @@
 -- A reply to a packet as plain numbers, all 0 where there is nothing to say.
--- Assumes nothing.
 use Prim.Native.Nat.{ℕ, _+_}
 use mathlib.Core.Bool.{Bool, true, false}
+use mathlib.Core.Option.{Option, none, some}
 use lib.IntN.{pos}
 use Rattle.wire.specs.Reply.{Reply, refused, given}
-use Rattle.slave.specs.Answer.{Option, none, some, Notice, absent, taken, slip, ignored, Mark, unmarked, untimed, late, released, Count}
+use Rattle.times.specs.Release.{Times, late, released}
+use Rattle.slave.specs.Answer.{Notice, absent, taken, slip, ignored, Mark, unmarked, untimed, due, markNumber, Report}
+use Rattle.replies.specs.declared.MarkTimes.{MarkTimes}
 use Rattle.replies.specs.declared.Mark as CMark
 use Rattle.replies.specs.declared.PacketReply.{PacketReply}
 
-abbrev pub isSome : Option → Bool
+abbrev pub isSome : Option ℕ → Bool
 isSome none = false
 isSome (some x) = true
 
-abbrev pub valueOf : Option → ℕ
+abbrev pub valueOf : Option ℕ → ℕ
 valueOf none = 0
 valueOf (some x) = x
 
@@ -28,32 +30,43 @@ noticeNumber taken = 0
 noticeNumber slip = 0
 noticeNumber (ignored k) = k
 
-abbrev pub withoutTimes : ℕ → CMark.Mark
-withoutTimes k = record { kind = k; times = record { reference = 0; emission = 0; modulation = 0; wait = pos 0 } }
+-- a released mark's kind says its profile, and so the unit of its times
+abbrev pub markKind : Mark → ℕ
+markKind unmarked = 0
+markKind untimed = 1
+markKind (due profile late) = 2
+markKind (due profile (released t)) = profile + 3
 
--- A released mark's kind says its profile, and so the unit of its times.
+abbrev pub noTimes : MarkTimes
+noTimes = record { reference = 0; emission = 0; modulation = 0; wait = pos 0 }
+
+abbrev pub flatTimes : Times → MarkTimes
+flatTimes t = record { reference = t .reference; emission = t .emission; modulation = t .modulation; wait = t .wait }
+
+abbrev pub markTimes : Mark → MarkTimes
+markTimes unmarked = noTimes
+markTimes untimed = noTimes
+markTimes (due profile late) = noTimes
+markTimes (due profile (released t)) = flatTimes t
+
 abbrev pub flatMark : Mark → CMark.Mark
-flatMark unmarked = withoutTimes 0
-flatMark untimed = withoutTimes 1
-flatMark late = withoutTimes 2
-flatMark (released k t) =
-    record { kind = k + 3; times = record { reference = t .reference; emission = t .emission; modulation = t .modulation; wait = t .wait } }
+flatMark m = record { kind = markKind m; number = markNumber m; times = markTimes m }
 
-abbrev pub flatCount : Count → PacketReply
-flatCount c =
+abbrev pub flatReport : Report → PacketReply
+flatReport r =
     record {
       number = 0;
-      «has_label» = isSome (c .label);
-      label = valueOf (c .label);
-      notice = noticeKind (c .notice);
-      ignored = noticeNumber (c .notice);
-      turn = c .turn;
-      «has_place» = isSome (c .place);
-      place = valueOf (c .place);
-      mark = flatMark (c .mark);
+      «has_label» = isSome (r .label);
+      label = valueOf (r .label);
+      notice = noticeKind (r .notice);
+      ignored = noticeNumber (r .notice);
+      turn = r .turn;
+      «has_place» = isSome (r .place);
+      place = valueOf (r .place);
+      mark = flatMark (r .mark);
     }
 
-abbrev pub flatReply : Reply Count → PacketReply
+abbrev pub flatReply : Reply Report → PacketReply
 flatReply (refused k) =
-    record { number = k; «has_label» = false; label = 0; notice = 0; ignored = 0; turn = false; «has_place» = false; place = 0; mark = withoutTimes 0 }
-flatReply (given c) = flatCount c
+    record { number = k; «has_label» = false; label = 0; notice = 0; ignored = 0; turn = false; «has_place» = false; place = 0; mark = flatMark unmarked }
+flatReply (given r) = flatReport r

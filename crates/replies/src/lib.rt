@@ -6,9 +6,9 @@ use slave::Maybe;
 use slave::NoticePart;
 use slave::Outcome;
 ghost use mathlib.Core.Path.{_≡_};
-ghost use Rattle.wire.specs.Reply.{numberOf};
-ghost use Rattle.slave.specs.Answer.{optionOf, noticeOf, markOf, countOf, answerOf, outcomeOf};
-ghost use Rattle.replies.specs.Flat.{isSome, valueOf, noticeKind, noticeNumber, withoutTimes, flatMark, flatCount, flatReply};
+ghost use Rattle.wire.specs.Reply.{refused, numberOf};
+ghost use Rattle.slave.specs.Answer.{optionOf, noticeOf, markOf, reportOf, answerOf, outcomeOf};
+ghost use Rattle.replies.specs.Flat.{isSome, valueOf, noticeKind, noticeNumber, noTimes, flatMark, flatReport, flatReply};
 
 // What a mark is released with, in the unit of its profile.
 #[repr(C)]
@@ -19,11 +19,12 @@ pub struct MarkTimes {
     pub wait: i64,
 }
 
-// A mark: 0 none, 1 untimed, 2 late (14), 3 released in profile 0 with its times in steps of 100 ns, 4 released in profile 1 with its times in bit periods.
-// In C the times are a union with a member for each unit.
+// A mark: 0 none, 1 untimed, 2 late, 3 released in profile 0 with its times in steps of 100 ns, 4 released in profile 1 with its times in bit periods.
+// The number is that of a late mark, else 0. In C the times are a union with a member for each unit.
 #[repr(C)]
 pub struct Mark {
     pub kind: u8,
+    pub number: u8,
     pub times: MarkTimes,
 }
 
@@ -81,11 +82,13 @@ fn notice_number(n: NoticePart) -> u8
     }
 }
 
-fn no_times(kind: u8) -> Mark
-    ensures { λ r. ⌜ r ≡ withoutTimes kind ⌝ }
+// A mark without times.
+fn no_times(kind: u8, number: u8) -> Mark
+    ensures { λ r. ⌜ r ≡ record { kind = kind; number = number; times = noTimes } ⌝ }
 {
     Mark {
         kind: kind,
+        number: number,
         times: MarkTimes {
             reference: 0,
             emission: 0,
@@ -99,15 +102,17 @@ fn mark_of(m: MarkPart) -> Mark
     ensures { λ r. ⌜ r ≡ flatMark (markOf m) ⌝ }
 {
     match m {
-        MarkPart::Unmarked => no_times(0),
-        MarkPart::Untimed => no_times(1),
-        MarkPart::Late => no_times(2),
+        MarkPart::Unmarked => no_times(0, 0),
+        MarkPart::Untimed => no_times(1, 0),
+        MarkPart::DvbLate => no_times(2, 14),
+        MarkPart::A110Late => no_times(2, 14),
         MarkPart::Dvb(t) => {
             let reference = t.reference;
             let emission = t.emission;
             let modulation = t.modulation;
             Mark {
                 kind: 3,
+                number: 0,
                 times: MarkTimes {
                     reference: reference.0,
                     emission: emission.0,
@@ -122,6 +127,7 @@ fn mark_of(m: MarkPart) -> Mark
             let modulation = t.modulation;
             Mark {
                 kind: 4,
+                number: 0,
                 times: MarkTimes {
                     reference: reference.0,
                     emission: emission.0,
@@ -133,8 +139,8 @@ fn mark_of(m: MarkPart) -> Mark
     }
 }
 
-fn count_of(c: Counted) -> PacketReply
-    ensures { λ r. ⌜ r ≡ flatCount (countOf c) ⌝ }
+fn report_of(c: Counted) -> PacketReply
+    ensures { λ r. ⌜ r ≡ flatReport (reportOf c) ⌝ }
 {
     let label = c.label;
     let notice = c.notice;
@@ -153,23 +159,30 @@ fn count_of(c: Counted) -> PacketReply
     }
 }
 
+// A call that is refused.
+pub fn refused(k: u8) -> PacketReply
+    ensures { λ r. ⌜ r ≡ flatReply (refused k) ⌝ }
+{
+    PacketReply {
+        number: k,
+        has_label: false,
+        label: 0,
+        notice: 0,
+        ignored: 0,
+        turn: false,
+        has_place: false,
+        place: 0,
+        mark: no_times(0, 0),
+    }
+}
+
 // A slave's answer as plain numbers.
 pub fn reply_of(a: Answer) -> PacketReply
     ensures { λ r. ⌜ r ≡ flatReply (answerOf a) ⌝ }
 {
     match a {
-        Answer::Counted(c) => count_of(c),
-        Answer::Refused(k) => PacketReply {
-            number: k,
-            has_label: false,
-            label: 0,
-            notice: 0,
-            ignored: 0,
-            turn: false,
-            has_place: false,
-            place: 0,
-            mark: no_times(0),
-        },
+        Answer::Counted(c) => report_of(c),
+        Answer::Refused(k) => refused(k),
     }
 }
 

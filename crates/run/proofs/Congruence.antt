@@ -1,5 +1,4 @@
 -- Places and labels modulo n, for any n: where a cadence ends, and how far a count may go without passing its end.
--- Assumes nothing.
 use mathlib.Core.Path.{_≡_, refl, sym, ap, _∙_}
 use mathlib.Core.Bool.{Bool, true, false, false≢true}
 use Prim.Native.Nat.{ℕ, zero, suc, _+_, _*_, _-_, _/_, _%_, _≤_, _<_}
@@ -10,8 +9,8 @@ use lib.Dec.{eqb, leb, ltb}
 use borrow.Author.Tests.{ltb-true, eqb-true, eqb-false, eq-eqb, ne-eqb}
 use Rattle.times.specs.Whole.{residue}
 use Rattle.times.proofs.Whole.{Diff, natural, difference, residue-is, residue-only}
-use Rattle.limits.specs.Limits.{isZero}
-use Rattle.run.proofs.Tests.{both}
+use Rattle.state.specs.Sound.{isZero}
+use Rattle.wire.proofs.Tests.{both}
 
 -- a whole number that is 0 is the difference of equals
 pub equal-of-zero : (z : ℤ) {a b : ℕ} → Diff z a b → isZero z ≡ true → a ≡ b
@@ -41,7 +40,7 @@ module _ (n place cadence : ℕ) (some : 0 < n) (after : cadence * n < place) (t
       omega arith
 
   -- any other label is before the end
-  pub short : (place % n ≡ 0 → ⊥) → suc place ≤ suc cadence * n
+  pub short : (place % n ≡ 0 → ⊥) → place + 1 ≤ suc cadence * n
   short f =
       let g : place ≡ suc cadence * n → ⊥ = λ e. f (ap (λ (x : ℕ). x % n) e ∙ mul-mod-left (suc cadence) n) in
       omega arith

@@ -1,34 +1,31 @@
 -- Small runs, computed over the definitions: the premises of demand 3 can be met, marks are released, and what it does not claim can be wrong.
--- Assumes nothing.
 use mathlib.Core.Path.{_≡_, refl}
 use mathlib.Core.Bool.{Bool, true, false}
 use mathlib.Core.List.{List, [], _∷_}
-use mathlib.Core.Option as Option′
+use mathlib.Core.Option.{Option, none, some}
 use Prim.Native.Nat.{ℕ, _+_, _*_, _/_, _%_}
 use lib.Dec.{lit≤}
 use lib.IntN.{ℤ, pos, negsuc}
 use lib.ListN.{replicate}
 use Rattle.wire.specs.Reply.{Reply, refused, given}
-use Rattle.times.specs.Whole.{within}
-use Rattle.times.specs.Release as Release
-use Rattle.times.specs.Release.{wrap, modulation, linkDelay, delayFits, delayFitsA110, limits, releaseOf}
-use Rattle.cadence.specs.Cadence.{atSomeRate, isMegaFrame, admits}
 use Rattle.check_value.specs.Register.{bitIn, bitsIn, registerFrom, register}
+use Rattle.times.specs.Whole.{within}
+use Rattle.times.specs.Release.{wrap, modulation, linkDelay, delayFits, delayFitsA110, released, dueOf}
+use Rattle.cadence.specs.Cadence.{atSomeRate, isMegaFrame, admits}
 use Rattle.addressing.specs.Functions.{lengthFits, setBy, functionsIn, functionsOf}
-use Rattle.addressing.specs.Entries.{applies, entriesIn, settingsOf, wellFormed}
-use Rattle.notice.specs.Reader.{packetRefusal, headRefusal, bodyRefusal, readRefusal, readOf, addressingPart}
-use Rattle.limits.specs.Limits.{second, delayKept, settingsKept, isZero, frequencyFits, indexFits, pendingFits, huntingFits, lockedFits, partsFit}
-use Rattle.slave.specs.Sound.{sound}
-use Rattle.slave.specs.Answer as Answer
-use Rattle.slave.specs.Answer.{Option, none, some, Notice, absent, slip, Mark, unmarked, untimed, released, Count}
-use Rattle.judging.specs.Judge.{arrivalRefusal, takenRefusal, judgePacket, numbersRefusal, judgeNumbers}
+use Rattle.addressing.specs.Entries.{addressed, entriesIn, settingsOf}
+use Rattle.notice.specs.Reader.{sectionRefusal}
+use Rattle.state.specs.Profile.{second, delayKept, settingsKept}
+use Rattle.state.specs.Sound.{isZero, frequencyFits, indexFits, isNothing, waitingFits, isUnset, huntingFits, lockedFits, partsFit, sound}
+use Rattle.state.specs.declared.Board.{Board}
+use Rattle.state.specs.declared.Slave.{Slave}
+use Rattle.judging.specs.Judge.{arrivalRefusal, carries, takenRefusal, limited, judgeMip, judgeArrived, judgeGiven}
+use Rattle.slave.specs.Answer.{Notice, absent, taken, slip, ignored, Mark, unmarked, untimed, due, Report}
 use Rattle.slave.specs.Step.{releaseAt, markAt, passed, unheard, counted, markTaken, noticeTaken, took, stepOf}
 use Rattle.slave.specs.Gap.{gapped}
 use Rattle.slave.specs.Calls.{startOf, packetOf, numbersOf, gapOf}
-use Rattle.slave.specs.declared.Slave.{Slave}
-use Rattle.judging.specs.declared.Board.{Board}
 use Rattle.run.specs.Adapter.{Adapter}
-use Rattle.run.specs.Book.{byValue, inPlace, packet, numbers, Call, at, gap, verdictOf, judged, verdict, Book, closed, untold, count, fall, enter, turn}
+use Rattle.run.specs.Book.{byValue, inPlace, packet, numbers, Call, at, gap, judged, Book, closed, verdictAt, untold, countPlace, tellGap, enter, enterCall}
 use Rattle.run.specs.Run.{hear, leave, begun, places, Run}
 use Rattle.run.specs.Claim.{toldExactly}
 
@@ -37,7 +34,7 @@ abbrev sts : ℕ → ℕ
 sts c = (19_392_600 + 500 * c) % 19_392_658
 
 abbrev A : Adapter
-A c = Option′.some (record { label = 620; sts = sts c; md = 100 })
+A c = some (record { label = 620; sts = sts c; md = 100 })
 
 abbrev g : Board
 g = record { profile = 1; n = 624; site = 7; tad = 20 }
@@ -53,26 +50,26 @@ abbrev plain : ℕ → ℕ → Call
 plain t tick = at t (packet inPlace clean tick)
 
 abbrev note : ℕ → ℕ → ℤ → Call
-note t tick od = at t (numbers clean tick 3 (sts (t / 624)) 100 od 255)
+note t tick od = at t (numbers clean tick (record { pointer = 3; sts = record { 0 = sts (t / 624) }; md = record { 0 = 100 }; od = od; index = 255 }))
 
-abbrev said : Option → Notice → Mark → Reply Count
+abbrev said : Option ℕ → Notice → Mark → Reply Report
 said l n m = given (record { label = l; notice = n; turn = false; mark = m; place = none })
 
-abbrev due : (reference emission modulation wait : ℕ) → Mark
-due r e m w = released 1 (record { reference = r; emission = e; modulation = m; wait = pos w })
+abbrev inBits : (reference emission modulation wait : ℕ) → Mark
+inBits r e m w = due 1 (released (record { reference = r; emission = e; modulation = m; wait = pos w }))
 
 -- what the slave replies, and whether the book has all told exactly at each place
-abbrev replies : Slave → List Call → List (Reply Count)
+abbrev replies : Slave → List Call → List (Reply Report)
 replies s [] = []
 replies s (at t a ∷ cs) = hear s a .reply ∷ replies (leave s (at t a)) cs
 replies s (gap k ∷ cs) = replies (leave s (gap k)) cs
 
 abbrev exact : Board → Book → List Call → List Bool
 exact g b [] = []
-exact g b (at t a ∷ cs) = toldExactly b t ∷ exact g (turn g b (at t a)) cs
-exact g b (gap k ∷ cs) = exact g (turn g b (gap k)) cs
+exact g b (at t a ∷ cs) = toldExactly b t ∷ exact g (enterCall g b (at t a)) cs
+exact g b (gap k ∷ cs) = exact g (enterCall g b (gap k)) cs
 
-pub record Computed (A : Adapter) (g : Board) (calls : List Call) (answers : List (Reply Count)) (told : List Bool) : Type 0 where
+pub record Computed (A : Adapter) (g : Board) (calls : List Call) (answers : List (Reply Report)) (told : List Bool) : Type 0 where
   pub run : Run g A calls
   pub replied : replies (begun g) calls ≡ answers
   pub booked : exact g closed calls ≡ told
@@ -83,28 +80,28 @@ pub record Computed (A : Adapter) (g : Board) (calls : List Call) (answers : Lis
 abbrev toldCalls : List Call
 toldCalls = plain 5 0 ∷ note 620 1 (pos 0) ∷ plain 621 2 ∷ at 622 (packet byValue damaged 3) ∷ gap 2 ∷ plain 624 19_392_650 ∷ []
 
-abbrev toldReplies : List (Reply Count)
+abbrev toldReplies : List (Reply Report)
 toldReplies =
-    said none absent unmarked ∷ said (some 620) Answer.taken unmarked ∷ said (some 621) absent unmarked ∷ refused 2
-    ∷ said (some 0) absent (due 42 42 22 30) ∷ []
+    said none absent unmarked ∷ said (some 620) taken unmarked ∷ said (some 621) absent unmarked ∷ refused 2
+    ∷ said (some 0) absent (inBits 42 42 22 30) ∷ []
 
 -- two lost untold: the labels are two behind, the mark's own packet is not seen as it, and the next notice slips. From then on all is told
 abbrev slipCalls : List Call
 slipCalls = note 620 1 (pos 0) ∷ plain 621 2 ∷ plain 624 3 ∷ gap 619 ∷ note 1244 4 (pos 0) ∷ gap 3 ∷ plain 1248 460 ∷ []
 
-abbrev slipReplies : List (Reply Count)
+abbrev slipReplies : List (Reply Report)
 slipReplies =
-    said (some 620) Answer.taken unmarked ∷ said (some 621) absent unmarked ∷ said (some 622) absent unmarked ∷ said (some 620) slip unmarked
-    ∷ said (some 0) absent (due 542 542 522 62) ∷ []
+    said (some 620) taken unmarked ∷ said (some 621) absent unmarked ∷ said (some 622) absent unmarked ∷ said (some 620) slip unmarked
+    ∷ said (some 0) absent (inBits 542 542 522 62) ∷ []
 
 -- a whole cadence lost untold: the mark at 1248 is released with the time of the mark at 624, which is not claimed, and the next notice is no slip
 abbrev cadenceCalls : List Call
 cadenceCalls = note 620 1 (pos 0) ∷ plain 621 2 ∷ plain 1246 3 ∷ gap 1 ∷ plain 1248 0 ∷ gap 619 ∷ note 1868 5 (pos 0) ∷ []
 
-abbrev cadenceReplies : List (Reply Count)
+abbrev cadenceReplies : List (Reply Report)
 cadenceReplies =
-    said (some 620) Answer.taken unmarked ∷ said (some 621) absent unmarked ∷ said (some 622) absent unmarked ∷ said (some 0) absent (due 42 42 22 22)
-    ∷ said (some 620) Answer.taken unmarked ∷ []
+    said (some 620) taken unmarked ∷ said (some 621) absent unmarked ∷ said (some 622) absent unmarked ∷ said (some 0) absent (inBits 42 42 22 22)
+    ∷ said (some 620) taken unmarked ∷ []
 
 -- another site, with other delays, that has the mark at 624 after the second's pulse: the same reference time
 abbrev h : Board
@@ -113,8 +110,8 @@ h = record { profile = 1; n = 624; site = 9; tad = 1 }
 abbrev otherCalls : List Call
 otherCalls = note 620 1 (negsuc 29) ∷ gap 3 ∷ plain 624 10 ∷ []
 
-abbrev otherReplies : List (Reply Count)
-otherReplies = said (some 620) Answer.taken unmarked ∷ said (some 0) absent (due 42 12 11 1) ∷ []
+abbrev otherReplies : List (Reply Report)
+otherReplies = said (some 620) taken unmarked ∷ said (some 0) absent (inBits 42 12 11 1) ∷ []
 
 -- profile 0: a MIP, stuffed to 188 bytes, with an OD of −5 for site 7, and later the same with a bit damaged
 abbrev mip : ℕ → List ℕ
@@ -123,7 +120,7 @@ mip last =
     ∷ 0x00 ∷ 0x07 ∷ 0x04 ∷ 0x00 ∷ 0x04 ∷ 0xFF ∷ 0xFB ∷ 0x5C ∷ 0x2D ∷ 0x53 ∷ last ∷ replicate 156 0xFF
 
 abbrev B : Adapter
-B c = Option′.some (record { label = 2015; sts = 9_999_000; md = 1_100 })
+B c = some (record { label = 2015; sts = 9_999_000; md = 1_100 })
 
 abbrev k : Board
 k = record { profile = 0; n = 2016; site = 7; tad = 200 }
@@ -131,11 +128,11 @@ k = record { profile = 0; n = 2016; site = 7; tad = 200 }
 abbrev mipCalls : List Call
 mipCalls = at 2015 (packet byValue (mip 0x68) 3) ∷ plain 2016 9_999_500 ∷ gap 2014 ∷ at 4031 (packet byValue (mip 0x69) 4) ∷ plain 4032 5 ∷ []
 
-abbrev mipReplies : List (Reply Count)
+abbrev mipReplies : List (Reply Report)
 mipReplies =
-    said (some 2015) Answer.taken unmarked
-    ∷ said (some 0) absent (released 0 (record { reference = 100; emission = 95; modulation = 9_999_895; wait = pos 395 }))
-    ∷ said (some 2015) (Answer.ignored 9) unmarked ∷ said (some 0) absent untimed ∷ []
+    said (some 2015) taken unmarked
+    ∷ said (some 0) absent (due 0 (released (record { reference = 100; emission = 95; modulation = 9_999_895; wait = pos 395 })))
+    ∷ said (some 2015) (ignored 9) unmarked ∷ said (some 0) absent untimed ∷ []
 
 pub computed :
     Computed A g toldCalls toldReplies (false ∷ false ∷ true ∷ true ∷ true ∷ [])
@@ -143,55 +140,30 @@ pub computed :
     × Computed A g cadenceCalls cadenceReplies (false ∷ true ∷ false ∷ false ∷ false ∷ [])
     × Computed A h otherCalls otherReplies (false ∷ true ∷ [])
     × Computed B k mipCalls mipReplies (false ∷ true ∷ true ∷ true ∷ [])
-unfolding places turn verdict verdictOf judged enter count fall untold startOf hear leave packetOf numbersOf gapOf sound settingsKept admits second partsFit huntingFits isZero lockedFits frequencyFits indexFits pendingFits delayKept delayFits delayFitsA110 within judgePacket judgeNumbers arrivalRefusal takenRefusal numbersRefusal stepOf counted passed unheard took markAt markTaken noticeTaken releaseAt releaseOf limits Release.markOf wrap modulation linkDelay gapped isMegaFrame atSomeRate readOf readRefusal packetRefusal headRefusal bodyRefusal addressingPart wellFormed settingsOf entriesIn functionsOf functionsIn lengthFits setBy applies register registerFrom bitsIn bitIn
+unfolding places enterCall verdictAt judged enter countPlace tellGap untold hear leave startOf packetOf numbersOf gapOf sound settingsKept admits isMegaFrame atSomeRate second partsFit huntingFits isUnset isZero lockedFits frequencyFits indexFits waitingFits isNothing delayKept delayFits delayFitsA110 within arrivalRefusal carries takenRefusal limited judgeMip judgeArrived judgeGiven stepOf counted passed unheard took markAt markTaken noticeTaken releaseAt dueOf wrap modulation linkDelay gapped sectionRefusal settingsOf entriesIn functionsOf functionsIn lengthFits setBy addressed register registerFrom bitsIn bitIn
 computed = (
   record {
-    run =
-        record {
-          accepted = refl;
-          rising = (lit≤ tt, (lit≤ tt, (lit≤ tt, (lit≤ tt, tt))));
-          genuine = (tt, (record { points = refl; here = refl }, (tt, (tt, (tt, tt)))));
-        };
+    run = record { accepted = refl; rising = (lit≤ tt, (lit≤ tt, (lit≤ tt, (lit≤ tt, tt)))); genuine = (tt, (record { points = refl; here = refl }, (tt, (tt, (tt, (tt, tt)))))) };
     replied = refl;
     booked = refl;
   },
   record {
-    run =
-        record {
-          accepted = refl;
-          rising = (lit≤ tt, (lit≤ tt, (lit≤ tt, (lit≤ tt, (lit≤ tt, tt)))));
-          genuine = (record { points = refl; here = refl }, (tt, (tt, (record { points = refl; here = refl }, (tt, tt)))));
-        };
+    run = record { accepted = refl; rising = (lit≤ tt, (lit≤ tt, (lit≤ tt, (lit≤ tt, (lit≤ tt, tt))))); genuine = (record { points = refl; here = refl }, (tt, (tt, (tt, (record { points = refl; here = refl }, (tt, (tt, tt))))))) };
     replied = refl;
     booked = refl;
   },
   record {
-    run =
-        record {
-          accepted = refl;
-          rising = (lit≤ tt, (lit≤ tt, (lit≤ tt, (lit≤ tt, (lit≤ tt, tt)))));
-          genuine = (record { points = refl; here = refl }, (tt, (tt, (tt, (record { points = refl; here = refl }, tt)))));
-        };
+    run = record { accepted = refl; rising = (lit≤ tt, (lit≤ tt, (lit≤ tt, (lit≤ tt, (lit≤ tt, tt))))); genuine = (record { points = refl; here = refl }, (tt, (tt, (tt, (tt, (tt, (record { points = refl; here = refl }, tt))))))) };
     replied = refl;
     booked = refl;
   },
   record {
-    run =
-        record {
-          accepted = refl;
-          rising = (lit≤ tt, (lit≤ tt, tt));
-          genuine = (record { points = refl; here = refl }, (tt, tt));
-        };
+    run = record { accepted = refl; rising = (lit≤ tt, (lit≤ tt, tt)); genuine = (record { points = refl; here = refl }, (tt, (tt, tt))) };
     replied = refl;
     booked = refl;
   },
   record {
-    run =
-        record {
-          accepted = refl;
-          rising = (lit≤ tt, (lit≤ tt, (lit≤ tt, (lit≤ tt, tt))));
-          genuine = (record { points = refl; here = refl }, (tt, (tt, (tt, tt))));
-        };
+    run = record { accepted = refl; rising = (lit≤ tt, (lit≤ tt, (lit≤ tt, (lit≤ tt, tt)))); genuine = (record { points = refl; here = refl }, (tt, (tt, (tt, (tt, tt))))) };
     replied = refl;
     booked = refl;
   },

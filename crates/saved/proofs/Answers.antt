@@ -1,84 +1,87 @@
 -- What save and resume answer, number by number.
--- Assumes nothing.
 use mathlib.Core.Path.{_≡_, refl, ap, _∙_}
 use mathlib.Core.Bool.{true, false}
-use mathlib.Core.List.{List, _++_}
-use Prim.Native.Nat.{ℕ, _+_, _≤_, _<_}
-use lib.ListN.{length, take, drop}
+use mathlib.Core.List.{List, [], _∷_, _++_}
+use Prim.Native.Nat.{ℕ, _+_, _-_, _≤_, _<_}
+use native.Mathlib.Omega.{arith}
+use lib.ListN.{length, take, drop, length-append, length-drop}
 use lib.Seq.{take-at}
 use borrow.Author.Tests.{le-leb, lt-leb}
-use Rattle.wire.specs.Reply.{refused, given, reply, keptBy}
+use Rattle.wire.specs.Reply.{refused, given}
 use Rattle.wire.specs.BigEndian.{bytes32}
 use Rattle.wire.proofs.Puts.{put-behind}
-use Rattle.check_value.specs.Register.{register, sealed}
-use Rattle.limits.specs.Limits.{settingsKept}
-use Rattle.slave.specs.Sound.{sound, cold, hunting}
+use Rattle.check_value.specs.Register.{register, sealedAt}
+use Rattle.check_value.proofs.Sealing.{seal-fits}
+use Rattle.state.specs.Profile.{settingsKept}
+use Rattle.state.specs.Slave.{cold, hunting}
+use Rattle.state.specs.Sound.{sound}
+use Rattle.state.specs.declared.Board.{Board}
+use Rattle.state.specs.declared.Slave.{Slave}
+use Rattle.slave.specs.Answer.{left}
 use Rattle.slave.specs.Calls.{startOf}
-use Rattle.slave.specs.declared.Slave.{Slave}
-use Rattle.saved.specs.Layout.{bodyOf}
-use Rattle.saved.specs.Block.{blockLength, coveredOf, blockOf, saveRefusal, saveReply, saveOf, held, blockFits, sameBoard, resumeRefusal, resumeOf}
+use Rattle.saved.specs.Layout.{bodyLength, pair, bodyFields, putIn, putAll, bodyOf}
+use Rattle.saved.specs.Block.{blockLength, coveredOf, blockOf, saveRefusal, saveOf, held, blockFits, sameBoard, resumeRefusal, resumeOf}
+use Rattle.saved.proofs.Body.{put-packed}
 
 -- ---- save
 
-module _ (s : Slave) (room : ℕ) where
-  pub save-15 : sound s ≡ false → saveRefusal s room ≡ 15
-  unfolding saveRefusal
+module _ (s : Slave) (out : List ℕ) where
+  pub save-15 : sound s ≡ false → saveOf s out ≡ record { reply = refused 15; bytes = out }
+  unfolding saveOf saveRefusal
   save-15 e = rw e
 
   module _ (e : sound s ≡ true) where
-    pub save-18 : room < blockLength → saveRefusal s room ≡ 18
-    unfolding saveRefusal
-    save-18 h = rw (e, lt-leb blockLength room h)
+    pub save-18 : length out < blockLength → saveOf s out ≡ record { reply = refused 18; bytes = out }
+    unfolding saveOf saveRefusal
+    save-18 h = rw (e, lt-leb blockLength (length out) h)
 
-    pub save-none : blockLength ≤ room → saveRefusal s room ≡ 0
-    unfolding saveRefusal
-    save-none h = rw (e, le-leb blockLength room h)
+    pub save-done : blockLength ≤ length out → saveOf s out ≡ record { reply = given tt; bytes = blockOf s ++ drop blockLength out }
+    unfolding saveOf saveRefusal
+    save-done h = rw (e, le-leb blockLength (length out) h)
 
--- what a number answers and leaves
-pub answered : (s : Slave) (room k : ℕ) → saveRefusal s room ≡ k → saveReply s room ≡ reply k tt
-unfolding saveReply
-answered s room k e = ap (λ (j : ℕ). reply j tt) e
-
-pub left : (s : Slave) (out : List ℕ) (k : ℕ) → saveRefusal s (length out) ≡ k → saveOf s out ≡ keptBy k out (blockOf s ++ drop blockLength out)
-unfolding saveOf
-left s out k e = ap (λ (j : ℕ). keptBy j out (blockOf s ++ drop blockLength out)) e
-
-pub covered-length : (s : Slave) → length (coveredOf s) ≡ 34
+pub covered-length : (s : Slave) → length (coveredOf s) ≡ blockLength - 4
 unfolding coveredOf bodyOf
 covered-length s = refl
 
--- body through distance put at the front, and sealed
-pub block-put : (s : Slave) (d d₁ d₂ c : List ℕ) → c ≡ coveredOf s
-    → d₁ ≡ take 0 d ++ c ++ drop (0 + length c) d
-    → d₂ ≡ sealed (take 34 d₁) ++ drop 38 d₁
-    → d₂ ≡ blockOf s ++ drop 38 d
-unfolding blockOf
-block-put s d d₁ d₂ c e p q =
-    let front : d₁ ≡ coveredOf s ++ drop 34 d = p ∙ ap (λ (x : List ℕ). x ++ drop (0 + length x) d) e ∙ ap (λ (k : ℕ). coveredOf s ++ drop (0 + k) d) (covered-length s) in
-    let first : take 34 d₁ ≡ coveredOf s = ap (take 34) front ∙ take-at (coveredOf s) (drop 34 d) 34 (covered-length s) in
-    q
-    ∙ ap (λ (x : List ℕ). take 34 d₁ ++ bytes32 (register x) ++ drop 38 d₁) first
-    ∙ ap (λ (x : List ℕ). take 34 x ++ bytes32 (register (coveredOf s)) ++ drop 38 x) front
-    ∙ put-behind (coveredOf s) (bytes32 (register (coveredOf s))) d 34 (covered-length s)
+-- body, site and distance put at the front, and sealed
+pub block-put : (s : Slave) (d d₁ d₂ d₃ d₄ : List ℕ) → blockLength ≤ length d
+    → d₁ ≡ putAll d (bodyFields s)
+    → d₂ ≡ putIn d₁ (pair bodyLength) (s .board .site)
+    → d₃ ≡ putIn d₂ (pair (bodyLength + 2)) bodyLength
+    → d₄ ≡ sealedAt (blockLength - 4) d₃
+    → d₄ ≡ blockOf s ++ drop blockLength d
+unfolding coveredOf blockOf bodyOf
+block-put s d d₁ d₂ d₃ d₄ h e₁ e₂ e₃ e₄ =
+    let site : ℕ = s .board .site in
+    let at : ℕ = blockLength - 4 in
+    let covered : d₃ ≡ coveredOf s ++ drop at d =
+    e₃
+    ∙ ap (λ (x : List ℕ). putIn x (pair (bodyLength + 2)) bodyLength) (e₂ ∙ ap (λ (x : List ℕ). putIn x (pair bodyLength) site) e₁)
+    ∙ put-packed d (bodyFields s ++ (pair bodyLength, site) ∷ (pair (bodyLength + 2), bodyLength) ∷ []) 0 [] refl refl (omega arith) in
+    let front : take at (coveredOf s ++ drop at d) ≡ coveredOf s = take-at (coveredOf s) (drop at d) at (covered-length s) in
+    e₄
+    ∙ ap (sealedAt at) covered
+    ∙ seal-fits at (coveredOf s ++ drop at d) (omega (arith, length-append (coveredOf s) (drop at d), covered-length s, length-drop at d))
+    ∙ ap (λ (x : List ℕ). take at (coveredOf s ++ drop at d) ++ bytes32 (register x) ++ drop blockLength (coveredOf s ++ drop at d)) front
+    ∙ put-behind (coveredOf s) (bytes32 (register (coveredOf s))) d at (covered-length s)
 
 -- ---- resume
 
-module _ (b : List ℕ) (profile n site tad : ℕ) where
-  pub resume-15 : settingsKept profile n site tad ≡ false → resumeOf b profile n site tad ≡ record { slave = cold; reply = refused 15 }
+module _ (block : List ℕ) (b : Board) where
+  pub resume-15 : settingsKept b ≡ false → resumeOf block b ≡ left cold (refused 15)
   unfolding resumeOf resumeRefusal startOf
   resume-15 e = rw e
 
-  module _ (e : settingsKept profile n site tad ≡ true) where
-    pub resume-16 : blockFits b ≡ false → resumeOf b profile n site tad ≡ record { slave = hunting profile n site tad; reply = refused 16 }
+  module _ (e : settingsKept b ≡ true) where
+    pub resume-16 : blockFits block ≡ false → resumeOf block b ≡ left (hunting b) (refused 16)
     unfolding resumeOf resumeRefusal startOf
     resume-16 f = rw (e, f)
 
-    module _ (f : blockFits b ≡ true) where
-      pub resume-17 : sameBoard (held b) profile n site tad ≡ false
-          → resumeOf b profile n site tad ≡ record { slave = hunting profile n site tad; reply = refused 17 }
+    module _ (f : blockFits block ≡ true) where
+      pub resume-17 : sameBoard (held block .board) b ≡ false → resumeOf block b ≡ left (hunting b) (refused 17)
       unfolding resumeOf resumeRefusal startOf
       resume-17 h = rw (e, f, h)
 
-      pub resume-held : sameBoard (held b) profile n site tad ≡ true → resumeOf b profile n site tad ≡ record { slave = held b; reply = given tt }
+      pub resume-held : sameBoard (held block .board) b ≡ true → resumeOf block b ≡ left (held block) (given tt)
       unfolding resumeOf resumeRefusal startOf
       resume-held h = rw (e, f, h)

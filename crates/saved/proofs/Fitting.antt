@@ -1,5 +1,4 @@
 -- A block that fits, test by test.
--- Assumes nothing.
 use mathlib.Core.Path.{_≡_}
 use mathlib.Core.Bool.{Bool, true, false, _&&_}
 use mathlib.Core.List.{List}
@@ -7,7 +6,7 @@ use Prim.Native.Nat.{ℕ}
 use lib.Dec.{eqb}
 use borrow.Author.Tests.{eq-eqb, ne-eqb, eqb-true}
 use Rattle.check_value.specs.Register.{register}
-use Rattle.slave.specs.Sound.{sound}
+use Rattle.state.specs.Sound.{sound}
 use Rattle.wire.proofs.Tests.{both}
 use Rattle.saved.specs.Block.{trailerSite, shaped, fromBody, held, blockFits}
 
@@ -22,33 +21,26 @@ module _ (b : List ℕ) where
     fits-check h = rw (e, ne-eqb (register (fromBody b)) 0 h)
 
     module _ (z : register (fromBody b) ≡ 0) where
-      pub fits-site : (trailerSite b ≡ held b .site → ⊥) → false ≡ blockFits b
+      pub fits-site : (trailerSite b ≡ held b .board .site → ⊥) → false ≡ blockFits b
       unfolding blockFits
-      fits-site h = rw (e, eq-eqb (register (fromBody b)) 0 z, ne-eqb (trailerSite b) (held b .site) h)
+      fits-site h = rw (e, eq-eqb (register (fromBody b)) 0 z, ne-eqb (trailerSite b) (held b .board .site) h)
 
-      pub fits-sound : trailerSite b ≡ held b .site → sound (held b) ≡ blockFits b
+      pub fits-sound : trailerSite b ≡ held b .board .site → sound (held b) ≡ blockFits b
       unfolding blockFits
-      fits-sound h = rw (e, eq-eqb (register (fromBody b)) 0 z, eq-eqb (trailerSite b) (held b .site) h)
+      fits-sound h = rw (e, eq-eqb (register (fromBody b)) 0 z, eq-eqb (trailerSite b) (held b .board .site) h)
 
-  -- and what one that fits has
-  pub shape-of : blockFits b ≡ true → shaped b ≡ true
-  unfolding blockFits
-  shape-of e =
-      let p : Bool = shaped b && eqb (register (fromBody b)) 0 in
-      both (shaped b) _ (both p _ (both (p && eqb (trailerSite b) (held b .site)) _ e .0) .0) .0
+-- and what one that fits has
+pub record Fitting (b : List ℕ) : Type 0 where
+  pub shape : shaped b ≡ true
+  pub check : register (fromBody b) ≡ 0
+  pub site : trailerSite b ≡ held b .board .site
+  pub is-sound : sound (held b) ≡ true
 
-  pub check-of : blockFits b ≡ true → register (fromBody b) ≡ 0
-  unfolding blockFits
-  check-of e =
-      let p : Bool = shaped b && eqb (register (fromBody b)) 0 in
-      eqb-true _ _ (both (shaped b) _ (both p _ (both (p && eqb (trailerSite b) (held b .site)) _ e .0) .0) .1)
-
-  pub site-of : blockFits b ≡ true → trailerSite b ≡ held b .site
-  unfolding blockFits
-  site-of e =
-      let p : Bool = shaped b && eqb (register (fromBody b)) 0 in
-      eqb-true _ _ (both p _ (both (p && eqb (trailerSite b) (held b .site)) _ e .0) .1)
-
-  pub sound-of : blockFits b ≡ true → sound (held b) ≡ true
-  unfolding blockFits
-  sound-of e = both (shaped b && eqb (register (fromBody b)) 0 && eqb (trailerSite b) (held b .site)) _ e .1
+pub fitting : (b : List ℕ) → blockFits b ≡ true → Fitting b
+unfolding blockFits
+fitting b e =
+    let shapeCheck : Bool = shaped b && eqb (register (fromBody b)) 0 in
+    let p = both (shapeCheck && eqb (trailerSite b) (held b .board .site)) _ e in
+    let q = both shapeCheck _ (p .0) in
+    let r = both (shaped b) _ (q .0) in
+    record { shape = r .0; check = eqb-true _ _ (r .1); site = eqb-true _ _ (q .1); is-sound = p .1 }

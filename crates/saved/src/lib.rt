@@ -1,220 +1,222 @@
-// The saved block (document 01, "Saved block"): a slave saved into a lent buffer, and resumed from any bytes by a board of its settings.
+// The saved block (document 01, "Saved block"): a slave saved into a lent buffer, and resumed from any bytes on a board.
+use addressing::Settings;
 use slave::Outcome;
 use slave::Shifted;
-use slave::Slave;
+use state::Board;
+use state::Count;
+use state::Slave;
+use state::Waiting;
 ghost use mathlib.Core.Path.{_≡_};
-ghost use mathlib.Core.Bool.{true};
-ghost use Prim.Native.Nat.{_+_, _≤_};
-ghost use lib.ListN.{length};
-ghost use Rattle.wire.specs.BigEndian.{be16At, be32At};
-ghost use Rattle.slave.specs.Answer.{outcomeOf};
-ghost use Rattle.saved.specs.Layout.{bodyLength, slaveIn};
-ghost use Rattle.saved.specs.Block.{trailerLength, coveredOf, saveReply, saveOf, trailer, distance, shaped, fromBody, blockFits, sameBoard, resumeOf};
+ghost use Prim.Native.Nat.{_-_};
+ghost use Rattle.wire.specs.Reply.{refused};
+ghost use Rattle.state.specs.Slave.{hunting};
+ghost use Rattle.slave.specs.Answer.{left, shiftedOf};
+ghost use Rattle.saved.specs.Layout.{byte, pair, word, bodyFields, putIn, putAll, slaveIn};
+ghost use Rattle.saved.specs.Block.{saveOf, outputOf, trailer, distance, shaped, fromBody, held, blockFits, sameBoard, resumeOf};
 
-// Body through distance.
-fn covered_of(s: Slave) -> [u8; 34]
-    ensures { λ r. ⌜ r ≡ coveredOf s ⌝ }
+// The bytes of a body, of a trailer, and of the block that a save writes.
+const BODY_LENGTH: usize = 30;
+
+const TRAILER_LENGTH: usize = 8;
+
+const BLOCK_LENGTH: usize = BODY_LENGTH + TRAILER_LENGTH;
+
+// Puts a byte at its place in the body.
+fn put_byte(out: &mut [u8], at: usize, v: u8)
+    ensures { λ _. ⌜ now (out .exit) ≡ putIn (now (out .entry)) (byte at) v ⌝ }
 {
-    let n = wire::bytes_16(s.n);
-    let site = wire::bytes_16(s.site);
-    let tad = wire::bytes_32(s.tad);
-    let od = wire::bytes_16(wire::bits_16(s.od));
-    let frequency = wire::bytes_32(wire::bits_32(s.frequency));
-    let power = wire::bytes_16(s.power);
-    let next = wire::bytes_16(s.next);
-    let sts = wire::bytes_32(s.sts);
-    let md = wire::bytes_32(s.md);
-    [
-        s.phase,
-        s.profile,
-        n[0],
-        n[1],
-        site[0],
-        site[1],
-        tad[0],
-        tad[1],
-        tad[2],
-        tad[3],
-        od[0],
-        od[1],
-        frequency[0],
-        frequency[1],
-        frequency[2],
-        frequency[3],
-        power[0],
-        power[1],
-        next[0],
-        next[1],
-        s.pending,
-        s.index,
-        sts[0],
-        sts[1],
-        sts[2],
-        sts[3],
-        md[0],
-        md[1],
-        md[2],
-        md[3],
-        site[0],
-        site[1],
-        0,
-        30,
-    ]
+    wire::put(out, at, &[v]);
 }
 
-// Saves a slave into the first 38 bytes of a lent buffer; a refusal leaves it as it was.
-pub fn save(s: Slave, out: &mut [u8]) -> Outcome
-    ensures { λ r. ⌜ (outcomeOf r ≡ saveReply s (length (now (out .entry)))) × (now (out .exit) ≡ saveOf s (now (out .entry))) ⌝ }
+fn put_pair(out: &mut [u8], at: usize, v: u16)
+    ensures { λ _. ⌜ now (out .exit) ≡ putIn (now (out .entry)) (pair at) v ⌝ }
 {
-    if !slave::soundness::is_sound(s) {
+    wire::put(out, at, &wire::bytes_16(v));
+}
+
+fn put_word(out: &mut [u8], at: usize, v: u32)
+    ensures { λ _. ⌜ now (out .exit) ≡ putIn (now (out .entry)) (word at) v ⌝ }
+{
+    wire::put(out, at, &wire::bytes_32(v));
+}
+
+// Puts a slave's body over the first bytes.
+fn put_body(out: &mut [u8], s: Slave)
+    ensures { λ _. ⌜ now (out .exit) ≡ putAll (now (out .entry)) (bodyFields s) ⌝ }
+{
+    put_byte(out, 0, s.count.phase);
+    put_byte(out, 1, s.board.profile);
+    put_pair(out, 2, s.board.n);
+    put_pair(out, 4, s.board.site);
+    put_word(out, 6, s.board.tad);
+    put_pair(out, 10, wire::bits_16(s.settings.od));
+    put_word(out, 12, wire::bits_32(s.settings.frequency));
+    put_pair(out, 16, s.settings.power);
+    put_pair(out, 18, s.count.next);
+    put_byte(out, 20, s.waiting.pending);
+    put_byte(out, 21, s.count.index);
+    put_word(out, 22, s.waiting.sts);
+    put_word(out, 26, s.waiting.md);
+}
+
+// Saves a slave into the first bytes of a lent buffer; a refusal leaves it as it was.
+pub fn save(s: Slave, out: &mut [u8]) -> Outcome
+    ensures { λ r. ⌜ outputOf r (now (out .exit)) ≡ saveOf s (now (out .entry)) ⌝ }
+{
+    if !state::is_sound(s) {
         return Outcome::Refused(15);
     }
-    if out.len() < 38 {
+    if out.len() < BLOCK_LENGTH {
         return Outcome::Refused(18);
     }
-    let covered = covered_of(s);
-    wire::put(out, 0, &covered);
-    check_value::seal(out, 34);
+    put_body(out, s);
+    put_pair(out, BODY_LENGTH, s.board.site);
+    put_pair(out, BODY_LENGTH + 2, BODY_LENGTH as u16);
+    check_value::seal(out, BLOCK_LENGTH - 4);
     Outcome::Done
 }
 
-// The number of two bytes from byte i on.
-fn pair_at(b: &[u8], i: usize) -> u16
-    requires { ⌜ i + 2 ≤ length (now b) ⌝ }
-    ensures { λ r. ⌜ r ≡ be16At (now (b .entry)) i ⌝ }
+// The difference, 0 where it would be negative.
+fn less(a: usize, b: usize) -> usize
+    ensures { λ r. ⌜ r ≡ a - b ⌝ }
 {
-    wire::number16(b[i], b[i + 1])
-}
-
-// The number of four bytes from byte i on.
-fn word_at(b: &[u8], i: usize) -> u32
-    requires { ⌜ i + 4 ≤ length (now b) ⌝ }
-    ensures { λ r. ⌜ r ≡ be32At (now (b .entry)) i ⌝ }
-{
-    wire::number32(b[i], b[i + 1], b[i + 2], b[i + 3])
+    if a < b {
+        return 0;
+    }
+    a - b
 }
 
 // The last 8 bytes.
 fn trailer_of(b: &[u8]) -> &[u8]
-    requires { ⌜ trailerLength ≤ length (now b) ⌝ }
     ensures { λ r. ⌜ now r ≡ trailer (now (b .entry)) ⌝ }
 {
-    let end = b.len() - 8;
-    &b[end..]
+    let start = less(b.len(), TRAILER_LENGTH);
+    &b[start..]
 }
 
 // How far before the trailer the body begins.
 fn distance_of(b: &[u8]) -> u16
-    requires { ⌜ trailerLength ≤ length (now b) ⌝ }
     ensures { λ r. ⌜ r ≡ distance (now (b .entry)) ⌝ }
 {
-    let t = trailer_of(b);
-    pair_at(t, 2)
+    wire::number16_at(trailer_of(b), 2)
 }
 
 // The distance is long enough for a body and leads to a byte of the block.
 fn is_shaped(b: &[u8]) -> bool
     ensures { λ r. ⌜ r ≡ shaped (now (b .entry)) ⌝ }
 {
-    if b.len() < 38 {
-        return false;
-    }
     let d = distance_of(b) as usize;
-    if d < 30 {
+    if d < BODY_LENGTH {
         return false;
     }
-    d + 8 <= b.len()
+    d + TRAILER_LENGTH <= b.len()
 }
 
 // Body through check value.
 fn from_body(b: &[u8]) -> &[u8]
-    requires { ⌜ shaped (now b) ≡ true ⌝ }
     ensures { λ r. ⌜ now r ≡ fromBody (now (b .entry)) ⌝ }
 {
-    let start = b.len() - 8 - distance_of(b) as usize;
+    let start = less(less(b.len(), TRAILER_LENGTH), distance_of(b) as usize);
     &b[start..]
 }
 
 // The slave whose body these bytes begin with.
 fn slave_in(b: &[u8]) -> Slave
-    requires { ⌜ bodyLength ≤ length (now b) ⌝ }
     ensures { λ r. ⌜ r ≡ slaveIn (now (b .entry)) ⌝ }
 {
     Slave {
-        phase: b[0],
-        profile: b[1],
-        n: pair_at(b, 2),
-        site: pair_at(b, 4),
-        tad: word_at(b, 6),
-        od: wire::signed_16(pair_at(b, 10)),
-        frequency: wire::signed_32(word_at(b, 12)),
-        power: pair_at(b, 16),
-        next: pair_at(b, 18),
-        pending: b[20],
-        index: b[21],
-        sts: word_at(b, 22),
-        md: word_at(b, 26),
+        board: Board {
+            profile: wire::byte_at(b, 1),
+            n: wire::number16_at(b, 2),
+            site: wire::number16_at(b, 4),
+            tad: wire::number32_at(b, 6),
+        },
+        settings: Settings {
+            od: wire::signed_16(wire::number16_at(b, 10)),
+            frequency: wire::signed_32(wire::number32_at(b, 12)),
+            power: wire::number16_at(b, 16),
+        },
+        count: Count {
+            phase: wire::byte_at(b, 0),
+            next: wire::number16_at(b, 18),
+            index: wire::byte_at(b, 21),
+        },
+        waiting: Waiting {
+            pending: wire::byte_at(b, 20),
+            sts: wire::number32_at(b, 22),
+            md: wire::number32_at(b, 26),
+        },
     }
 }
 
 // No 16: the shape, the check value, the trailer's site, and parts that a sound slave has.
-fn block_fits(b: &[u8]) -> bool
+fn block_fits(b: &[u8], body: &[u8], s: Slave) -> bool
+    requires { ⌜ (now body ≡ fromBody (now b)) × (s ≡ held (now b)) ⌝ }
     ensures { λ r. ⌜ r ≡ blockFits (now (b .entry)) ⌝ }
 {
     if !is_shaped(b) {
         return false;
     }
-    let body = from_body(b);
     let rest = check_value::register_of(body);
     if rest != 0 {
         return false;
     }
-    let t = trailer_of(b);
-    let s = slave_in(body);
-    if pair_at(t, 0) != s.site {
+    let site = wire::number16_at(trailer_of(b), 0);
+    let board = s.board;
+    if site != board.site {
         return false;
     }
-    slave::soundness::is_sound(s)
+    state::is_sound(s)
 }
 
-// No 17: the slave is this board's.
-fn same_board(s: Slave, profile: u8, n: u16, site: u16, tad: u32) -> bool
-    ensures { λ r. ⌜ r ≡ sameBoard s profile n site tad ⌝ }
+// No 17.
+fn same_board(a: Board, b: Board) -> bool
+    ensures { λ r. ⌜ r ≡ sameBoard a b ⌝ }
 {
-    if s.site != site {
+    if a.site != b.site {
         return false;
     }
-    if s.profile != profile {
+    if a.profile != b.profile {
         return false;
     }
-    if s.n != n {
+    if a.n != b.n {
         return false;
     }
-    s.tad == tad
+    a.tad == b.tad
 }
 
-// Resumes from any bytes on a board of these settings. 15 leaves the cold slave, 16 and 17 a fresh hunting slave of the settings.
-pub fn resume(block: &[u8], profile: u8, n: u16, site: u16, tad: u32) -> Shifted
-    ensures { λ r. ⌜ (r .slave ≡ resumeOf (now (block .entry)) profile n site tad .slave) × (outcomeOf (r .outcome) ≡ resumeOf (now (block .entry)) profile n site tad .reply) ⌝ }
+// A number, and a fresh hunting slave of the board.
+fn fresh(b: Board, number: u8) -> Shifted
+    ensures { λ r. ⌜ shiftedOf r ≡ left (hunting b) (refused number) ⌝ }
 {
-    if !limits::settings_kept(profile, n, site, tad) {
+    Shifted {
+        slave: state::hunting_slave(b),
+        outcome: Outcome::Refused(number),
+    }
+}
+
+// Resumes from any bytes on a board. 15 leaves the cold slave, 16 and 17 a fresh hunting slave of the board.
+pub fn resume(block: &[u8], b: Board) -> Shifted
+    ensures { λ r. ⌜ shiftedOf r ≡ resumeOf (now (block .entry)) b ⌝ }
+{
+    if !state::settings_kept(b) {
         return Shifted {
-            slave: slave::cold_slave(),
+            slave: state::cold_slave(),
             outcome: Outcome::Refused(15),
         };
     }
-    if !block_fits(block) {
-        return Shifted {
-            slave: slave::hunting_slave(profile, n, site, tad),
-            outcome: Outcome::Refused(16),
-        };
+    let body = from_body(block);
+    // no shape; below, every part is known to lie within the bytes
+    if body.len() < BLOCK_LENGTH {
+        return fresh(b, 16);
     }
-    let s = slave_in(from_body(block));
-    if !same_board(s, profile, n, site, tad) {
-        return Shifted {
-            slave: slave::hunting_slave(profile, n, site, tad),
-            outcome: Outcome::Refused(17),
-        };
+    let s = slave_in(body);
+    if !block_fits(block, body, s) {
+        return fresh(b, 16);
+    }
+    let board = s.board;
+    if !same_board(board, b) {
+        return fresh(b, 17);
     }
     Shifted {
         slave: s,

@@ -1,7 +1,7 @@
 -- The laws of crate `slave`, in the order in which they build on each other.
-pub mod GapWays
-pub mod Parts
-pub mod Ways
+pub mod Releasing
+pub mod Stepping
 pub mod Calling
-pub mod Plain
-pub mod Walk
+pub mod Passing
+pub mod Sound
+pub mod Due

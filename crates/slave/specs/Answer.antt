@@ -1,11 +1,11 @@
--- What the calls of a slave answer: a number that refuses the whole call, or what a counted packet has: label, notice, mark and M/H place.
--- Assumes nothing.
+-- What the calls of a slave answer: a number that refuses the whole call, or the report on a counted packet: label, notice, mark and M/H place.
 use Prim.Native.Nat.{ℕ}
 use mathlib.Core.Bool.{Bool}
+use mathlib.Core.Option.{Option, none, some}
 use Rattle.wire.specs.Reply.{Reply, refused, given}
-use Rattle.times.specs.Release.{Times}
+use Rattle.times.specs.Release.{Times, Due, late, released}
 use Rattle.times.specs.Answer.{dvbTimes, a110Times}
-use Rattle.slave.specs.declared.Slave.{Slave}
+use Rattle.state.specs.declared.Slave.{Slave}
 use Rattle.slave.specs.declared.Maybe as Maybe′
 use Rattle.slave.specs.declared.Maybe.the-variants as maybe
 use Rattle.slave.specs.declared.NoticePart as NoticePart′
@@ -17,11 +17,9 @@ use Rattle.slave.specs.declared.Answer as Answer′
 use Rattle.slave.specs.declared.Answer.the-variants as answer
 use Rattle.slave.specs.declared.Outcome as Outcome′
 use Rattle.slave.specs.declared.Outcome.the-variants as outcome
-
--- a label or a place, or none
-pub data Option : Type 0 where
-  none : Option
-  some : ℕ → Option
+use Rattle.slave.specs.declared.Stepped.{Stepped}
+use Rattle.slave.specs.declared.Shifted.{Shifted}
+use Rattle.slave.specs.declared.PlainTimes.{PlainTimes}
 
 -- the notice's part: none, taken, slip, or a number that ignores it
 pub data Notice : Type 0 where
@@ -30,34 +28,38 @@ pub data Notice : Type 0 where
   slip : Notice
   ignored : ℕ → Notice
 
--- the mark's part: none, untimed, late (14), or released with its times in the unit of a profile
+-- the mark's part: none, untimed, or due in the unit of a profile: late, or released with its times
 pub data Mark : Type 0 where
   unmarked : Mark
   untimed : Mark
-  late : Mark
-  released : ℕ → Times → Mark
+  due : ℕ → Due → Mark
 
--- the reply to a counted packet; `turn` says that a numbers notice gave another index than the known one
-pub record Count : Type 0 where
-  pub label : Option
+-- a mark's number: 14 where it is late
+abbrev pub markNumber : Mark → ℕ
+markNumber unmarked = 0
+markNumber untimed = 0
+markNumber (due profile late) = 14
+markNumber (due profile (released t)) = 0
+
+-- the report on a counted packet; `turn` says that a numbers notice gave another index than the known one
+pub record Report : Type 0 where
+  pub label : Option ℕ
   pub notice : Notice
   pub turn : Bool
   pub mark : Mark
-  pub place : Option
+  pub place : Option ℕ
 
--- what a packet or a numbers notice leaves and replies
-pub record Result : Type 0 where
+-- what a call leaves and replies
+pub record Result (A : Type 0) : Type 0 where
   pub slave : Slave
-  pub reply : Reply Count
+  pub reply : Reply A
 
--- what a start or a gap leaves and replies
-pub record Moved : Type 0 where
-  pub slave : Slave
-  pub reply : Reply (Unit {0})
+abbrev pub left : {A : Type 0} → Slave → Reply A → Result A
+left s r = record { slave = s; reply = r }
 
 -- ---- the code's answers in these numbers and values
 
-abbrev pub optionOf : Maybe′.Maybe → Option
+abbrev pub optionOf : Maybe′.Maybe → Option ℕ
 optionOf maybe.Nothing = none
 optionOf (maybe.Just x) = some x
 
@@ -67,20 +69,30 @@ noticeOf notice.Taken = taken
 noticeOf notice.Slip = slip
 noticeOf (notice.Ignored k) = ignored k
 
+abbrev pub plainTimes : PlainTimes → Times
+plainTimes t = record { reference = t .reference; emission = t .emission; modulation = t .modulation; wait = t .wait }
+
 abbrev pub markOf : MarkPart′.MarkPart → Mark
 markOf mark.Unmarked = unmarked
 markOf mark.Untimed = untimed
-markOf mark.Late = late
-markOf (mark.Dvb t) = released 0 (dvbTimes t)
-markOf (mark.A110 t) = released 1 (a110Times t)
+markOf mark.DvbLate = due 0 late
+markOf (mark.Dvb t) = due 0 (released (dvbTimes t))
+markOf mark.A110Late = due 1 late
+markOf (mark.A110 t) = due 1 (released (a110Times t))
 
-abbrev pub countOf : Counted′.Counted → Count
-countOf c = record { label = optionOf (c .label); notice = noticeOf (c .notice); turn = c .turn; mark = markOf (c .mark); place = optionOf (c .place) }
+abbrev pub reportOf : Counted′.Counted → Report
+reportOf c = record { label = optionOf (c .label); notice = noticeOf (c .notice); turn = c .turn; mark = markOf (c .mark); place = optionOf (c .place) }
 
-abbrev pub answerOf : Answer′.Answer → Reply Count
+abbrev pub answerOf : Answer′.Answer → Reply Report
 answerOf (answer.Refused k) = refused k
-answerOf (answer.Counted c) = given (countOf c)
+answerOf (answer.Counted c) = given (reportOf c)
 
 abbrev pub outcomeOf : Outcome′.Outcome → Reply (Unit {0})
 outcomeOf outcome.Done = given tt
 outcomeOf (outcome.Refused k) = refused k
+
+abbrev pub steppedOf : Stepped → Result Report
+steppedOf r = left (r .slave) (answerOf (r .answer))
+
+abbrev pub shiftedOf : Shifted → Result (Unit {0})
+shiftedOf r = left (r .slave) (outcomeOf (r .outcome))

@@ -1,7 +1,7 @@
 -- The definitions of crate `slave`, in reading order.
-pub mod Sound
 pub mod Answer
 pub mod Step
 pub mod Gap
 pub mod Calls
-pub mod Quick
+pub mod Ready
+pub mod Ways

@@ -1,42 +1,53 @@
 // A gap's steps.
-use crate::Slave;
+use crate::steps;
+use state::Slave;
 ghost use mathlib.Core.Path.{_≡_};
-ghost use Prim.Native.Nat.{_<_, _≤_};
-ghost use Rattle.slave.specs.Step.{raised};
-ghost use Rattle.slave.specs.Gap.{gapped};
+ghost use mathlib.Core.Bool.{true};
+ghost use Prim.Native.Nat.{_<_};
+ghost use Rattle.state.specs.Sound.{sound};
+ghost use Rattle.slave.specs.Gap.{toMark, gapped};
 
-// A known index after some marks.
-pub(crate) fn raised(index: u8, marks: u32) -> u8
-    requires { ⌜ marks ≤ 65536 ⌝ }
-    ensures { λ r. ⌜ r ≡ raised index marks ⌝ }
+// How many packets pass before the next mark.
+fn to_mark(n: u32, next: u32) -> u32
+    requires { ⌜ next < n ⌝ }
+    ensures { λ r. ⌜ r ≡ toMark n next ⌝ }
 {
-    if index == 255 {
-        return 255;
+    if next == 0 {
+        return 0;
     }
-    ((index as u32 + marks) % 20) as u8
+    n - next
 }
 
 // The slave after k missing packets.
 pub(crate) fn gapped(s: Slave, k: u16) -> Slave
-    requires { ⌜ s .next < s .n ⌝ }
+    requires { ⌜ sound s ≡ true ⌝ }
     ensures { λ r. ⌜ r ≡ gapped s k ⌝ }
 {
-    if s.phase != 2 {
+    let board = s.board;
+    let settings = s.settings;
+    let count = s.count;
+    let waiting = s.waiting;
+    if count.phase != 2 {
         return s;
     }
-    let n = s.n as u32;
-    let next = s.next as u32;
+    let n = board.n as u32;
+    let next = count.next as u32;
     let missing = k as u32;
-    let left = (n - next) % n;
-    let mut t = s;
-    t.next = ((next + missing) % n) as u16;
+    let left = to_mark(n, next);
+    let after = ((next + missing) % n) as u16;
     if missing <= left {
-        t.index = raised(s.index, 0);
-        return t;
+        return Slave {
+            board: board,
+            settings: settings,
+            count: steps::locked_at(after, steps::raised(count.index, 0)),
+            waiting: waiting,
+        };
     }
-    t.index = raised(s.index, 1 + (missing - 1 - left) / n);
-    t.pending = 0;
-    t.sts = 0;
-    t.md = 0;
-    t
+    let marks = 1 + (missing - 1 - left) / n;
+    Slave {
+        board: board,
+        settings: settings,
+        count: steps::locked_at(after, steps::raised(count.index, marks)),
+        waiting: state::nothing_waiting(),
+    }
 }

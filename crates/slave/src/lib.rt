@@ -1,33 +1,20 @@
 // The slave: it follows the cadence, takes notices and places marks in time (document 01, "Steps of a slave").
 use addressing::Settings;
-use judging::Board;
+use judging::Judged;
+use judging::Numbers;
+use state::Board;
+use state::Count;
+use state::Slave;
+use state::Waiting;
 use times::A110Times;
 use times::DvbTimes;
 ghost use mathlib.Core.Path.{_≡_};
-ghost use Rattle.slave.specs.Sound.{cold, hunting};
-ghost use Rattle.slave.specs.Answer.{answerOf, outcomeOf};
-ghost use Rattle.slave.specs.Calls.{boardOf, inForce, startOf, packetOf, numbersOf, gapOf};
-ghost use mathlib.Core.Bool.{false};
-ghost use Rattle.wire.specs.Reply.{refused};
-ghost use Rattle.slave.specs.Quick.{applies, quickNext, quickReply};
-
-// A slave's parts are those of the saved body. TAD, STS and MD are in the profile's own unit.
-#[repr(C)]
-pub struct Slave {
-    pub phase: u8,
-    pub profile: u8,
-    pub n: u16,
-    pub site: u16,
-    pub tad: u32,
-    pub od: i16,
-    pub frequency: i32,
-    pub power: u16,
-    pub next: u16,
-    pub pending: u8,
-    pub index: u8,
-    pub sts: u32,
-    pub md: u32,
-}
+ghost use Rattle.slave.specs.Answer.{steppedOf, shiftedOf};
+ghost use Rattle.slave.specs.Calls.{startOf, packetOf, numbersOf, gapOf};
+ghost use Rattle.judging.specs.Judge.{judgeArrived, judgeGiven};
+ghost use Rattle.slave.specs.Step.{stepOf};
+ghost use Rattle.slave.specs.Ready.{Ready};
+ghost use Rattle.slave.specs.Ways.{wayOf};
 
 // A label or a place.
 pub enum Maybe {
@@ -47,12 +34,13 @@ pub enum NoticePart {
 pub enum MarkPart {
     Unmarked,
     Untimed,
-    Late,
+    DvbLate,
     Dvb(DvbTimes),
+    A110Late,
     A110(A110Times),
 }
 
-// The reply to a counted packet.
+// The report on a counted packet.
 pub struct Counted {
     pub label: Maybe,
     pub notice: NoticePart,
@@ -85,276 +73,219 @@ pub struct Shifted {
     pub outcome: Outcome,
 }
 
+// The next label moves, and nothing else of the slave.
+pub struct Short {
+    pub next: u16,
+    pub answer: Answer,
+}
+
+// All that a packet may change.
+pub struct Moved {
+    pub settings: Settings,
+    pub count: Count,
+    pub waiting: Waiting,
+    pub answer: Answer,
+}
+
+// What a packet does to a slave: the slave is not sound (15); the call is refused; the count moves; or more.
+pub enum Way {
+    Cold,
+    Refused(u8),
+    Short(Short),
+    Moved(Moved),
+}
+
+// What a mark is released with, in the unit of either profile.
+struct PlainTimes {
+    reference: u32,
+    emission: u32,
+    modulation: u32,
+    wait: i64,
+}
+
 mod gaps;
-pub mod soundness;
+mod release;
 mod steps;
 
-// The cold slave.
-pub fn cold_slave() -> Slave
-    ensures { λ r. ⌜ r ≡ cold ⌝ }
-{
-    Slave {
-        phase: 0,
-        profile: 0,
-        n: 0,
-        site: 0,
-        tad: 0,
-        od: 0,
-        frequency: 0,
-        power: 0,
-        next: 0,
-        pending: 0,
-        index: 255,
-        sts: 0,
-        md: 0,
-    }
-}
-
-// A hunting slave.
-pub fn hunting_slave(profile: u8, n: u16, site: u16, tad: u32) -> Slave
-    ensures { λ r. ⌜ r ≡ hunting profile n site tad ⌝ }
-{
-    Slave {
-        phase: 1,
-        profile: profile,
-        n: n,
-        site: site,
-        tad: tad,
-        od: 0,
-        frequency: 0,
-        power: 0,
-        next: 0,
-        pending: 0,
-        index: 255,
-        sts: 0,
-        md: 0,
-    }
-}
-
 // Starts a slave. 15 outside the limits, and the cold slave.
-pub fn start(profile: u8, n: u16, site: u16, tad: u32) -> Shifted
-    ensures { λ r. ⌜ (r .slave ≡ startOf profile n site tad .slave) × (outcomeOf (r .outcome) ≡ startOf profile n site tad .reply) ⌝ }
+pub fn start(b: Board) -> Shifted
+    ensures { λ r. ⌜ shiftedOf r ≡ startOf b ⌝ }
 {
-    if limits::settings_kept(profile, n, site, tad) {
+    if state::settings_kept(b) {
         return Shifted {
-            slave: hunting_slave(profile, n, site, tad),
+            slave: state::hunting_slave(b),
             outcome: Outcome::Done,
         };
     }
     Shifted {
-        slave: cold_slave(),
+        slave: state::cold_slave(),
         outcome: Outcome::Refused(15),
     }
 }
 
+// A packet that arrived right, on a sound slave. Packets and numbers notices have a function each, of one caller, so that the compiler keeps the
+// steps of either out of memory.
+fn arrived(s: Slave, p: &[u8], tick: u32) -> Way
+    requires { ⌜ Ready s tick ⌝ }
+    ensures { λ r. ⌜ wayOf s r ≡ stepOf s (judgeArrived (s .board) (s .settings) (now (p .entry))) tick ⌝ }
+{
+    let board = s.board;
+    let settings = s.settings;
+    match judging::judge_arrived(board, settings, p) {
+        Judged::Counts(k) => {
+            let count = s.count;
+            if steps::on_mark(count) {
+                return Way::Moved(steps::pass_mark(s, k, steps::mark_at(s, tick)));
+            }
+            return Way::Short(steps::pass_on(s, k));
+        }
+        Judged::Takes(t) => {
+            return Way::Moved(steps::take(s, t, steps::mark_at(s, tick)));
+        }
+    }
+}
+
+// A numbers notice whose packet arrived right, on a sound slave.
+fn given(s: Slave, p: &[u8], tick: u32, x: Numbers) -> Way
+    requires { ⌜ Ready s tick ⌝ }
+    ensures { λ r. ⌜ wayOf s r ≡ stepOf s (judgeGiven (s .board) (s .settings) (now (p .entry)) x) tick ⌝ }
+{
+    let board = s.board;
+    let settings = s.settings;
+    match judging::judge_given(board, settings, p, x) {
+        Judged::Counts(k) => {
+            let count = s.count;
+            if steps::on_mark(count) {
+                return Way::Moved(steps::pass_mark(s, k, steps::mark_at(s, tick)));
+            }
+            return Way::Short(steps::pass_on(s, k));
+        }
+        Judged::Takes(t) => {
+            return Way::Moved(steps::take(s, t, steps::mark_at(s, tick)));
+        }
+    }
+}
+
+// What a packet with its arrival tick does. Each thing is judged once, in document 01's order: 15, then 1 to 3, then 4 and 6 to 13.
+pub fn way_of(s: Slave, p: &[u8], tick: u32) -> Way
+    ensures { λ r. ⌜ wayOf s r ≡ packetOf s (now (p .entry)) tick ⌝ }
+{
+    let board = s.board;
+    if !state::settings_kept(board) {
+        return Way::Cold;
+    }
+    if !state::parts_fit(s) {
+        return Way::Cold;
+    }
+    let refusal = judging::arrival_refusal(board.profile, p, tick);
+    if refusal != 0 {
+        return Way::Refused(refusal);
+    }
+    arrived(s, p, tick)
+}
+
+// What a numbers notice with its packet and arrival tick does: 15, then 1 to 3, 20, 4 and 11 to 13.
+pub fn numbers_way(s: Slave, p: &[u8], tick: u32, x: Numbers) -> Way
+    ensures { λ r. ⌜ wayOf s r ≡ numbersOf s (now (p .entry)) tick x ⌝ }
+{
+    let board = s.board;
+    if !state::settings_kept(board) {
+        return Way::Cold;
+    }
+    if !state::parts_fit(s) {
+        return Way::Cold;
+    }
+    let refusal = judging::arrival_refusal(board.profile, p, tick);
+    if refusal != 0 {
+        return Way::Refused(refusal);
+    }
+    if board.profile == 0 {
+        return Way::Refused(20);
+    }
+    given(s, p, tick, x)
+}
+
+// The slave that a way leaves, and its reply.
+fn applied(s: Slave, w: Way) -> Stepped
+    ensures { λ r. ⌜ steppedOf r ≡ wayOf s w ⌝ }
+{
+    match w {
+        Way::Short(q) => {
+            let board = s.board;
+            let settings = s.settings;
+            let waiting = s.waiting;
+            let answer = q.answer;
+            return Stepped {
+                slave: Slave {
+                    board: board,
+                    settings: settings,
+                    count: Count {
+                        phase: s.count.phase,
+                        next: q.next,
+                        index: s.count.index,
+                    },
+                    waiting: waiting,
+                },
+                answer: answer,
+            };
+        }
+        Way::Moved(m) => {
+            let board = s.board;
+            let settings = m.settings;
+            let count = m.count;
+            let waiting = m.waiting;
+            let answer = m.answer;
+            return Stepped {
+                slave: Slave {
+                    board: board,
+                    settings: settings,
+                    count: count,
+                    waiting: waiting,
+                },
+                answer: answer,
+            };
+        }
+        Way::Refused(k) => {
+            return Stepped {
+                slave: s,
+                answer: Answer::Refused(k),
+            };
+        }
+        Way::Cold => {
+            return Stepped {
+                slave: state::cold_slave(),
+                answer: Answer::Refused(15),
+            };
+        }
+    }
+}
+
+// A packet with its arrival tick.
+pub fn packet(s: Slave, p: &[u8], tick: u32) -> Stepped
+    ensures { λ r. ⌜ steppedOf r ≡ packetOf s (now (p .entry)) tick ⌝ }
+{
+    applied(s, way_of(s, p, tick))
+}
+
+// A numbers notice with its packet and arrival tick.
+pub fn numbers_notice(s: Slave, p: &[u8], tick: u32, x: Numbers) -> Stepped
+    ensures { λ r. ⌜ steppedOf r ≡ numbersOf s (now (p .entry)) tick x ⌝ }
+{
+    applied(s, numbers_way(s, p, tick, x))
+}
+
 // k packets are known to be missing.
 pub fn gap(s: Slave, k: u16) -> Shifted
-    ensures { λ r. ⌜ (r .slave ≡ gapOf s k .slave) × (outcomeOf (r .outcome) ≡ gapOf s k .reply) ⌝ }
+    ensures { λ r. ⌜ shiftedOf r ≡ gapOf s k ⌝ }
 {
-    if soundness::is_sound(s) {
+    if state::is_sound(s) {
         return Shifted {
             slave: gaps::gapped(s, k),
             outcome: Outcome::Done,
         };
     }
     Shifted {
-        slave: cold_slave(),
+        slave: state::cold_slave(),
         outcome: Outcome::Refused(15),
-    }
-}
-
-// The settings of a slave's start.
-fn board_of(s: Slave) -> Board
-    ensures { λ r. ⌜ r ≡ boardOf s ⌝ }
-{
-    Board {
-        profile: s.profile,
-        n: s.n,
-        site: s.site,
-        tad: s.tad,
-    }
-}
-
-// The settings in force.
-fn in_force(s: Slave) -> Settings
-    ensures { λ r. ⌜ r ≡ inForce s ⌝ }
-{
-    Settings {
-        od: s.od,
-        frequency: s.frequency,
-        power: s.power,
-    }
-}
-
-// Any packet.
-fn arrived(s: Slave, p: &[u8], tick: u32) -> Stepped
-    ensures { λ r. ⌜ (r .slave ≡ packetOf s (now (p .entry)) tick .slave) × (answerOf (r .answer) ≡ packetOf s (now (p .entry)) tick .reply) ⌝ }
-{
-    if soundness::is_sound(s) {
-        return steps::step(
-            s,
-            judging::judge_packet(board_of(s), in_force(s), p, tick),
-            tick,
-        );
-    }
-    Stepped {
-        slave: cold_slave(),
-        answer: Answer::Refused(15),
-    }
-}
-
-// A packet with its arrival tick. Nearly every packet is plain and no mark: these go first, and change the count alone.
-pub fn packet(s: Slave, p: &[u8], tick: u32) -> Stepped
-    ensures { λ r. ⌜ (r .slave ≡ packetOf s (now (p .entry)) tick .slave) × (answerOf (r .answer) ≡ packetOf s (now (p .entry)) tick .reply) ⌝ }
-{
-    if limits::settings_kept(s.profile, s.n, s.site, s.tad) {
-        if limits::parts_fit(
-            s.phase,
-            s.profile,
-            s.n,
-            s.tad,
-            s.od,
-            s.frequency,
-            s.power,
-            s.next,
-            s.pending,
-            s.index,
-            s.sts,
-            s.md,
-        ) {
-            if judging::is_plain(board_of(s), p, tick) {
-                if !steps::on_mark(s.phase, s.next) {
-                    let after = Slave {
-                        phase: s.phase,
-                        profile: s.profile,
-                        n: s.n,
-                        site: s.site,
-                        tad: s.tad,
-                        od: s.od,
-                        frequency: s.frequency,
-                        power: s.power,
-                        next: steps::label_left(s.phase, s.n, s.next),
-                        pending: s.pending,
-                        index: s.index,
-                        sts: s.sts,
-                        md: s.md,
-                    };
-                    return Stepped {
-                        slave: after,
-                        answer: steps::plain_answer(s.phase, s.next, s.index),
-                    };
-                }
-            }
-        }
-    }
-    let r = arrived(s, p, tick);
-    let after = r.slave;
-    let answer = r.answer;
-    Stepped {
-        slave: after,
-        answer: answer,
-    }
-}
-
-// A numbers notice with its packet and arrival tick.
-pub fn numbers_notice(
-    s: Slave,
-    p: &[u8],
-    tick: u32,
-    pointer: u16,
-    sts: u32,
-    md: u32,
-    od: i16,
-    index: u8,
-) -> Stepped
-    ensures { λ r. ⌜ (r .slave ≡ numbersOf s (now (p .entry)) tick pointer sts md od index .slave) × (answerOf (r .answer) ≡ numbersOf s (now (p .entry)) tick pointer sts md od index .reply) ⌝ }
-{
-    if soundness::is_sound(s) {
-        return steps::step(
-            s,
-            judging::judge_numbers(
-                board_of(s),
-                in_force(s),
-                p,
-                tick,
-                pointer,
-                sts,
-                md,
-                od,
-                index,
-            ),
-            tick,
-        );
-    }
-    Stepped {
-        slave: cold_slave(),
-        answer: Answer::Refused(15),
-    }
-}
-
-// The short way of a plain packet that is no mark: whether it applies, and then the count that it leaves and the reply.
-struct Shortcut {
-    applies: bool,
-    next: u16,
-    answer: Answer,
-}
-
-fn no_shortcut() -> Shortcut
-    ensures { λ r. ⌜ (r .applies ≡ false) × (r .next ≡ 0) × (answerOf (r .answer) ≡ refused 0) ⌝ }
-{
-    Shortcut {
-        applies: false,
-        next: 0,
-        answer: Answer::Refused(0),
-    }
-}
-
-fn quick(s: Slave, p: &[u8], tick: u32) -> Shortcut
-    ensures { λ r. ⌜ (r .applies ≡ applies s (now (p .entry)) tick) × (r .next ≡ quickNext s (now (p .entry)) tick) × (answerOf (r .answer) ≡ quickReply s (now (p .entry)) tick) ⌝ }
-{
-    if !limits::settings_kept(s.profile, s.n, s.site, s.tad) {
-        return no_shortcut();
-    }
-    if !limits::parts_fit(
-        s.phase,
-        s.profile,
-        s.n,
-        s.tad,
-        s.od,
-        s.frequency,
-        s.power,
-        s.next,
-        s.pending,
-        s.index,
-        s.sts,
-        s.md,
-    ) {
-        return no_shortcut();
-    }
-    if !judging::is_plain(board_of(s), p, tick) {
-        return no_shortcut();
-    }
-    if steps::on_mark(s.phase, s.next) {
-        return no_shortcut();
-    }
-    Shortcut {
-        applies: true,
-        next: steps::label_left(s.phase, s.n, s.next),
-        answer: steps::plain_answer(s.phase, s.next, s.index),
-    }
-}
-
-// The timer loop's form of the packet call: the lent slave is updated in its own memory.
-pub fn packet_in_place(s: &mut Slave, p: &[u8], tick: u32) -> Answer
-    ensures { λ r. ⌜ (now (s .exit) ≡ packetOf (now (s .entry)) (now (p .entry)) tick .slave) × (answerOf r ≡ packetOf (now (s .entry)) (now (p .entry)) tick .reply) ⌝ }
-{
-    let q = quick(*s, p, tick);
-    if q.applies {
-        s.next = q.next;
-        return q.answer;
-    } else {
-        let r = arrived(*s, p, tick);
-        *s = r.slave;
-        return r.answer;
     }
 }

@@ -3,27 +3,51 @@ use crate::Answer;
 use crate::Counted;
 use crate::MarkPart;
 use crate::Maybe;
+use crate::Moved;
 use crate::NoticePart;
-use crate::Slave;
-use crate::Stepped;
-use crate::gaps;
-use judging::Judged;
+use crate::Short;
+use crate::release;
 use judging::Taken;
-use times::A110Release;
-use times::DvbRelease;
-use times::Periods;
-use times::Steps;
+use state::Count;
+use state::Slave;
+use state::Waiting;
 ghost use mathlib.Core.Path.{_≡_};
 ghost use mathlib.Core.Bool.{cond};
-ghost use Prim.Native.Nat.{_<_};
+ghost use mathlib.Core.Bool.{true, false};
+ghost use Prim.Native.Nat.{ℕ, _<_, _≤_};
 ghost use lib.Dec.{eqb};
-ghost use Rattle.times.specs.Release.{dvbRelease, a110Release};
 ghost use Rattle.cadence.specs.Label.{nextLabel};
+ghost use Rattle.wire.specs.Reply.{given};
+ghost use Rattle.state.specs.Sound.{sound};
 ghost use Rattle.slave.specs.Answer.{optionOf, noticeOf, markOf, answerOf, untimed, unmarked};
-ghost use Rattle.judging.specs.Judgement.{judgementOf};
-ghost use Rattle.judging.specs.Pointed.{Pointed};
-ghost use Rattle.slave.specs.Step.{placeOf, markFrom, releaseAt, markAt, indexAt, indexAfter, turns, passed, counted, entered, took, stepOf};
-ghost use Rattle.slave.specs.Quick.{onMark, labelLeft, plainReply};
+ghost use Rattle.slave.specs.Step.{raised, placeOf, lockedAt, onMark, markAt, indexAt, countedReport, noticeBy, counted, agrees, indexBefore, indexAfter, turns, noticeTaken, took};
+ghost use Rattle.slave.specs.Ready.{Ready};
+ghost use Rattle.slave.specs.Ways.{shortOf, movedOf};
+
+// The next mark's index where it is not known.
+const UNKNOWN: u8 = 255;
+
+// A known index after some marks.
+pub(crate) fn raised(index: u8, marks: u32) -> u8
+    requires { ⌜ marks ≤ 65536 ⌝ }
+    ensures { λ r. ⌜ r ≡ raised index marks ⌝ }
+{
+    if index == UNKNOWN {
+        return UNKNOWN;
+    }
+    ((index as u32 + marks) % 20) as u8
+}
+
+// The count of a locked slave.
+pub(crate) fn locked_at(next: u16, index: u8) -> Count
+    ensures { λ r. ⌜ r ≡ lockedAt next index ⌝ }
+{
+    Count {
+        phase: 2,
+        next: next,
+        index: index,
+    }
+}
 
 // The label after this one.
 fn next_label(n: u16, label: u16) -> u16
@@ -41,188 +65,162 @@ fn next_label(n: u16, label: u16) -> u16
 fn place_of(index: u8, label: u16) -> Maybe
     ensures { λ r. ⌜ optionOf r ≡ placeOf index label ⌝ }
 {
-    if index == 255 {
+    if index == UNKNOWN {
         return Maybe::Nothing;
     }
     Maybe::Just(cadence::mobile_place(((index as u16 + 19) % 20) as u8, label))
 }
 
-// The slave is locked and its next packet is a mark.
-pub(crate) fn on_mark(phase: u8, next: u16) -> bool
-    ensures { λ r. ⌜ r ≡ onMark phase next ⌝ }
+// The notice's part of a packet of which no notice is taken.
+fn notice_by(k: u8) -> NoticePart
+    ensures { λ r. ⌜ noticeOf r ≡ noticeBy k ⌝ }
 {
-    if phase == 2 {
-        return next == 0;
+    if k == 0 {
+        return NoticePart::Absent;
+    }
+    NoticePart::Ignored(k)
+}
+
+// A locked slave's next packet is a mark.
+pub(crate) fn on_mark(c: Count) -> bool
+    ensures { λ r. ⌜ r ≡ onMark c ⌝ }
+{
+    if c.phase == 2 {
+        return c.next == 0;
     }
     false
 }
 
-// The label that a packet leaves.
-pub(crate) fn label_left(phase: u8, n: u16, next: u16) -> u16
-    requires { ⌜ next < n ⌝ }
-    ensures { λ r. ⌜ r ≡ labelLeft phase n next ⌝ }
-{
-    if phase == 2 {
-        return next_label(n, next);
-    }
-    next
-}
-
-// The reply to a plain packet that is no mark.
-pub(crate) fn plain_answer(phase: u8, next: u16, index: u8) -> Answer
-    ensures { λ r. ⌜ answerOf r ≡ plainReply phase next index ⌝ }
-{
-    if phase == 2 {
-        let reply = Counted {
-            label: Maybe::Just(next),
-            notice: NoticePart::Absent,
-            turn: false,
-            mark: MarkPart::Unmarked,
-            place: place_of(index, next),
-        };
-        return Answer::Counted(reply);
-    }
-    let reply = Counted {
-        label: Maybe::Nothing,
-        notice: NoticePart::Absent,
-        turn: false,
-        mark: MarkPart::Unmarked,
-        place: Maybe::Nothing,
-    };
-    Answer::Counted(reply)
-}
-
-// The pending notice's release in 100 ns steps.
-fn release_dvb(s: Slave, tick: u32) -> MarkPart
-    ensures { λ r. ⌜ markOf r ≡ markFrom 0 (dvbRelease (s .sts) (s .md) (s .od) (s .tad) tick) ⌝ }
-{
-    match times::dvb_release(Steps(s.sts), Steps(s.md), s.od, Steps(s.tad), Steps(tick)) {
-        DvbRelease::Released(t) => MarkPart::Dvb(t),
-        DvbRelease::Late => MarkPart::Late,
-        DvbRelease::Refused(_) => MarkPart::Untimed,
-    }
-}
-
-// The pending notice's release in bit periods.
-fn release_a110(s: Slave, tick: u32) -> MarkPart
-    ensures { λ r. ⌜ markOf r ≡ markFrom 1 (a110Release (s .sts) (s .md) (s .od) (s .tad) tick) ⌝ }
-{
-    match times::a110_release(
-        Periods(s.sts),
-        Periods(s.md),
-        s.od,
-        Periods(s.tad),
-        Periods(tick),
-    ) {
-        A110Release::Released(t) => MarkPart::A110(t),
-        A110Release::Late => MarkPart::Late,
-        A110Release::Refused(_) => MarkPart::Untimed,
-    }
-}
-
-// The pending notice's release, by the settings in force.
-fn release_at(s: Slave, tick: u32) -> MarkPart
-    ensures { λ r. ⌜ markOf r ≡ releaseAt s tick ⌝ }
-{
-    if s.profile == 1 {
-        return release_a110(s, tick);
-    }
-    release_dvb(s, tick)
-}
-
 // The mark on a packet whose label the slave counted.
-fn mark_at(s: Slave, tick: u32) -> MarkPart
+pub(crate) fn mark_at(s: Slave, tick: u32) -> MarkPart
+    requires { ⌜ Ready s tick ⌝ }
     ensures { λ r. ⌜ markOf r ≡ markAt s tick ⌝ }
 {
-    if s.next == 0 {
-        if s.pending == 1 {
-            return release_at(s, tick);
-        }
+    let count = s.count;
+    let waiting = s.waiting;
+    if !on_mark(count) {
+        return MarkPart::Unmarked;
+    }
+    if waiting.pending == 1 {
+        let board = s.board;
+        let settings = s.settings;
+        return release::release_at(
+            board.profile,
+            board.tad,
+            settings.od,
+            waiting.sts,
+            waiting.md,
+            tick,
+        );
+    }
+    MarkPart::Untimed
+}
+
+// The answer to a counted packet of which no notice is taken.
+fn counted(label: u16, index: u8, k: u8, mark: MarkPart) -> Answer
+    ensures { λ r. ⌜ answerOf r ≡ given (countedReport label index (noticeBy k) (markOf mark)) ⌝ }
+{
+    Answer::Counted(Counted {
+        label: Maybe::Just(label),
+        notice: notice_by(k),
+        turn: false,
+        mark: mark,
+        place: place_of(index, label),
+    })
+}
+
+// A packet of which no notice is taken and which is no mark: the count moves on, where there is one.
+pub(crate) fn pass_on(s: Slave, k: u8) -> Short
+    requires { ⌜ (sound s ≡ true) × (onMark (s .count) ≡ false) ⌝ }
+    ensures { λ r. ⌜ ((tick : ℕ) → shortOf s r ≡ counted s k tick) ⌝ }
+{
+    let count = s.count;
+    let board = s.board;
+    let label = count.next;
+    if count.phase == 2 {
+        return Short {
+            next: next_label(board.n, label),
+            answer: counted(label, count.index, k, MarkPart::Unmarked),
+        };
+    }
+    Short {
+        next: label,
+        answer: Answer::Counted(Counted {
+            label: Maybe::Nothing,
+            notice: notice_by(k),
+            turn: false,
+            mark: MarkPart::Unmarked,
+            place: Maybe::Nothing,
+        }),
+    }
+}
+
+// A mark of which no notice is taken: a waiting notice is released, and gone.
+pub(crate) fn pass_mark(s: Slave, k: u8, own: MarkPart) -> Moved
+    requires { ⌜ (sound s ≡ true) × (onMark (s .count) ≡ true) ⌝ }
+    ensures { λ r. ⌜ ((tick : ℕ) → markOf own ≡ markAt s tick → movedOf s r ≡ counted s k tick) ⌝ }
+{
+    let board = s.board;
+    let settings = s.settings;
+    let count = s.count;
+    let label = count.next;
+    let index = raised(count.index, 1);
+    Moved {
+        settings: settings,
+        count: locked_at(next_label(board.n, label), index),
+        waiting: state::nothing_waiting(),
+        answer: counted(label, index, k, own),
+    }
+}
+
+// Whether a locked slave counted this label.
+fn agrees(c: Count, label: u16) -> bool
+    ensures { λ r. ⌜ r ≡ agrees c label ⌝ }
+{
+    if c.phase == 2 {
+        return label == c.next;
+    }
+    false
+}
+
+// The mark on a packet whose notice is taken: on agreement the counted one, else label 0 is untimed.
+fn mark_taken(c: Count, label: u16, own: MarkPart) -> MarkPart
+    ensures { λ r. ⌜ markOf r ≡ cond (agrees c label) (markOf own) (cond (eqb label 0) untimed unmarked) ⌝ }
+{
+    if agrees(c, label) {
+        return own;
+    }
+    if label == 0 {
         return MarkPart::Untimed;
     }
     MarkPart::Unmarked
 }
 
 // The index after the mark on this packet.
-fn index_at(s: Slave) -> u8
-    ensures { λ r. ⌜ r ≡ indexAt s ⌝ }
+fn index_at(c: Count) -> u8
+    ensures { λ r. ⌜ r ≡ indexAt c ⌝ }
 {
-    if s.next == 0 {
-        return gaps::raised(s.index, 1);
+    if c.next == 0 {
+        return raised(c.index, 1);
     }
-    s.index
+    c.index
 }
 
-// A locked slave counts a packet that carries no notice for it.
-fn pass(s: Slave, notice: NoticePart, tick: u32) -> Stepped
-    requires { ⌜ (s .phase ≡ 2) × (s .next < s .n) ⌝ }
-    ensures { λ r. ⌜ (r .slave ≡ passed s (noticeOf notice) tick .slave) × (answerOf (r .answer) ≡ passed s (noticeOf notice) tick .reply) ⌝ }
+// The index before the notice's own: a slip and the first lock have none.
+fn index_before(c: Count, label: u16) -> u8
+    ensures { λ r. ⌜ r ≡ indexBefore c label ⌝ }
 {
-    let label = s.next;
-    let index = index_at(s);
-    let mark = mark_at(s, tick);
-    let place = place_of(index, label);
-    let mut t = s;
-    t.next = next_label(s.n, label);
-    t.index = index;
-    let reply = Counted {
-        label: Maybe::Just(label),
-        notice: notice,
-        turn: false,
-        mark: mark,
-        place: place,
-    };
-    if label == 0 {
-        t.pending = 0;
-        t.sts = 0;
-        t.md = 0;
-        return Stepped {
-            slave: t,
-            answer: Answer::Counted(reply),
-        };
+    if agrees(c, label) {
+        return index_at(c);
     }
-    Stepped {
-        slave: t,
-        answer: Answer::Counted(reply),
-    }
+    UNKNOWN
 }
 
-// A packet of which no notice is taken.
-fn count(s: Slave, notice: NoticePart, tick: u32) -> Stepped
-    requires { ⌜ s .next < s .n ⌝ }
-    ensures { λ r. ⌜ (r .slave ≡ counted s (noticeOf notice) tick .slave) × (answerOf (r .answer) ≡ counted s (noticeOf notice) tick .reply) ⌝ }
-{
-    if s.phase == 2 {
-        return pass(s, notice, tick);
-    }
-    let reply = Counted {
-        label: Maybe::Nothing,
-        notice: notice,
-        turn: false,
-        mark: MarkPart::Unmarked,
-        place: Maybe::Nothing,
-    };
-    Stepped {
-        slave: s,
-        answer: Answer::Counted(reply),
-    }
-}
-
-// The mark on a packet that the slave did not count as this label.
-fn mark_alone(label: u16) -> MarkPart
-    ensures { λ r. ⌜ markOf r ≡ cond (eqb label 0) untimed unmarked ⌝ }
-{
-    if label == 0 {
-        return MarkPart::Untimed;
-    }
-    MarkPart::Unmarked
-}
-
-// 255 keeps what is there, any other index enters.
+// An unknown index keeps what is there, any other enters.
 fn index_after(before: u8, index: u8) -> u8
     ensures { λ r. ⌜ r ≡ indexAfter before index ⌝ }
 {
-    if index == 255 {
+    if index == UNKNOWN {
         return before;
     }
     index
@@ -232,84 +230,52 @@ fn index_after(before: u8, index: u8) -> u8
 fn turned(before: u8, index: u8) -> bool
     ensures { λ r. ⌜ r ≡ turns before index ⌝ }
 {
-    if index == 255 {
+    if index == UNKNOWN {
         return false;
     }
-    if before == 255 {
+    if before == UNKNOWN {
         return false;
     }
     before != index
 }
 
-// The new notice and settings enter.
-fn enter(s: Slave, t: Taken, label: u16, before: u8, notice: NoticePart, mark: MarkPart) -> Stepped
-    requires { ⌜ label < s .n ⌝ }
-    ensures { λ r. ⌜ (r .slave ≡ entered s t label before (noticeOf notice) (markOf mark) .slave) × (answerOf (r .answer) ≡ entered s t label before (noticeOf notice) (markOf mark) .reply) ⌝ }
+// Taken, or a slip where a locked slave counted otherwise.
+fn notice_taken(c: Count, label: u16) -> NoticePart
+    ensures { λ r. ⌜ noticeOf r ≡ noticeTaken c label ⌝ }
 {
-    let index = index_after(before, t.index);
-    let settings = t.settings;
-    let after = Slave {
-        phase: 2,
-        profile: s.profile,
-        n: s.n,
-        site: s.site,
-        tad: s.tad,
-        od: settings.od,
-        frequency: settings.frequency,
-        power: settings.power,
-        next: next_label(s.n, label),
-        pending: 1,
-        index: index,
-        sts: t.sts,
-        md: t.md,
-    };
-    let reply = Counted {
-        label: Maybe::Just(label),
-        notice: notice,
-        turn: turned(before, t.index),
-        mark: mark,
-        place: place_of(index, label),
-    };
-    Stepped {
-        slave: after,
-        answer: Answer::Counted(reply),
-    }
-}
-
-// A notice is taken: its label decides.
-fn take(s: Slave, t: Taken, tick: u32) -> Stepped
-    requires { ⌜ t .pointer < s .n ⌝ }
-    ensures { λ r. ⌜ (r .slave ≡ took s t tick .slave) × (answerOf (r .answer) ≡ took s t tick .reply) ⌝ }
-{
-    let label = s.n - 1 - t.pointer;
-    if s.phase == 2 {
-        if label == s.next {
-            return enter(
-                s,
-                t,
-                label,
-                index_at(s),
-                NoticePart::Taken,
-                mark_at(s, tick),
-            );
+    if c.phase == 2 {
+        if label != c.next {
+            return NoticePart::Slip;
         }
-        return enter(s, t, label, 255, NoticePart::Slip, mark_alone(label));
     }
-    enter(s, t, label, 255, NoticePart::Taken, mark_alone(label))
+    NoticePart::Taken
 }
 
-// What a judged packet does.
-pub(crate) fn step(s: Slave, j: Judged, tick: u32) -> Stepped
-    requires { ⌜ (s .next < s .n) × Pointed (s .n) (judgementOf j) ⌝ }
-    ensures { λ r. ⌜ (r .slave ≡ stepOf s (judgementOf j) tick .slave) × (answerOf (r .answer) ≡ stepOf s (judgementOf j) tick .reply) ⌝ }
+// A notice is taken: its label decides, then the notice and its settings enter.
+pub(crate) fn take(s: Slave, t: Taken, own: MarkPart) -> Moved
+    requires { ⌜ t .pointer < s .board .n ⌝ }
+    ensures { λ r. ⌜ ((tick : ℕ) → markOf own ≡ markAt s tick → movedOf s r ≡ took s t tick) ⌝ }
 {
-    match j {
-        Judged::Plain => count(s, NoticePart::Absent, tick),
-        Judged::Ignore(k) => count(s, NoticePart::Ignored(k), tick),
-        Judged::Take(t) => take(s, t, tick),
-        Judged::Refuse(k) => Stepped {
-            slave: s,
-            answer: Answer::Refused(k),
+    let board = s.board;
+    let count = s.count;
+    let settings = t.settings;
+    let label = board.n - 1 - t.pointer;
+    let before = index_before(count, label);
+    let index = index_after(before, t.index);
+    Moved {
+        settings: settings,
+        count: locked_at(next_label(board.n, label), index),
+        waiting: Waiting {
+            pending: 1,
+            sts: t.sts,
+            md: t.md,
         },
+        answer: Answer::Counted(Counted {
+            label: Maybe::Just(label),
+            notice: notice_taken(count, label),
+            turn: turned(before, t.index),
+            mark: mark_taken(count, label, own),
+            place: place_of(index, label),
+        }),
     }
 }

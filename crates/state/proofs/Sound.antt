@@ -30,6 +30,18 @@ module _ (b : Board) (k : settingsKept b ≡ true) where
   pub some-packets : 0 < b .n
   some-packets = omega (arith, cadence-range)
 
+  -- a profile that is not 1 is 0
+  pub dvb-profile : (b .profile ≡ 1 → ⊥) → b .profile ≡ 0
+  unfolding admits
+  dvb-profile h = eqb-true _ _ (both (eqb (b .profile) 0) _ (rw (ne-eqb (b .profile) 1 h) at admitted) .0)
+
+  pub profile-small : b .profile < 2
+  profile-small = go (eqb (b .profile) 1) refl
+    where
+      go : (t : Bool) → eqb (b .profile) 1 ≡ t → b .profile < 2
+      go true e = omega (arith, eqb-true (b .profile) 1 e)
+      go false e = omega (arith, dvb-profile (eqb-false (b .profile) 1 e))
+
   pub tad-less : b .tad < second (b .profile)
   unfolding settingsKept
   tad-less = ltb-true _ _ (both (admits (b .profile) (b .n) && ltb 0 (b .site)) _ k .1)

@@ -1,6 +1,6 @@
 -- A slave's parts as they are before any call, and as a start gives them (document 01, "Steps of a slave").
 use Prim.Native.Nat.{ℕ}
-use Rattle.addressing.specs.Entries.{noSettings}
+use Rattle.addressing.specs.Functions.{noSettings}
 use Rattle.state.specs.declared.Board.{Board}
 use Rattle.state.specs.declared.Count.{Count}
 use Rattle.state.specs.declared.Waiting.{Waiting}

@@ -1,5 +1,4 @@
 -- Laws of decimal text: one digit, one digit more, how many there are; and that it spells its number with no zero in front.
--- Assumes nothing.
 use mathlib.Core.Path.{_≡_, refl, sym, ap, ap₂, _∙_}
 use mathlib.Core.Bool.{Bool, true, false}
 use mathlib.Core.List.{List, [], _∷_, _++_}
@@ -8,7 +7,7 @@ use native.Mathlib.Omega.{arith}
 use lib.Dec.{ltb}
 use lib.ListN.{length, getD, length-append, List·getD-append}
 use borrow.Author.Tests.{lt-ltb, le-ltb, ltb-true, ltb-false}
-use Rattle.text.specs.Decimal.{digit, decimalIn, decimal}
+use Rattle.text.specs.Decimal.{digit, decimalIn, decimal, mostDigits}
 
 -- the digits do not depend on how many are allowed, once there are enough
 same-step : (j k n : ℕ) (b : Bool) → ltb n 10 ≡ b → (b ≡ false → decimalIn j (n / 10) ≡ decimalIn k (n / 10))
@@ -71,10 +70,10 @@ unfolding tens
 at-most zero n h = omega (arith, length-one n h)
 at-most (suc k) n h = at-most-step k n (at-most k (n / 10) (omega arith)) (ltb n 10) refl
 
--- 64 bits have at most 20 digits
-pub at-most-20 : (n : ℕ) → n < 18_446_744_073_709_551_616 → length (decimal n) ≤ 20
+-- of 64 bits
+pub at-most-digits : (n : ℕ) → n < 18_446_744_073_709_551_616 → length (decimal n) ≤ mostDigits
 unfolding tens
-at-most-20 n h = at-most 19 n (omega arith)
+at-most-digits n h = at-most 19 n (omega arith)
 
 -- the number that digits spell
 unfoldable pub spelledFrom : ℕ → List ℕ → ℕ

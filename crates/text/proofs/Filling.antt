@@ -1,12 +1,11 @@
 -- The digits of a number, put from the last one back.
--- Assumes nothing.
 use mathlib.Core.Path.{_≡_, refl, sym, ap, ap₂, _∙_}
 use mathlib.Core.List.{List, [], _∷_, _++_, append-assoc, append-nil}
 use Prim.Native.Nat.{ℕ, suc, _+_, _-_, _/_, _%_, _≤_, _<_}
 use native.Mathlib.Omega.{arith}
 use lib.ListN.{length, take, drop, set, getD, take-append-drop}
 use lib.Seq.{length-take-le, take-suc, append-snoc, set-at}
-use Rattle.text.specs.Decimal.{digit, decimal}
+use Rattle.text.specs.Decimal.{digit, decimal, mostDigits}
 use Rattle.text.specs.Puts.{Puts}
 use Rattle.text.proofs.Decimals.{decimal-one, decimal-more, length-one, length-more, not-empty}
 
@@ -53,7 +52,7 @@ module _ (d : List ℕ) (at n : ℕ) (d′ : List ℕ) (i rest : ℕ) (f : Filli
       }
 
   -- the first digit
-  pub first-digit : rest < 10 → length (decimal n) ≤ 20 → Puts 20 d at (decimal n) (set d′ at (digit rest)) (at + length (decimal n))
+  pub first-digit : rest < 10 → length (decimal n) ≤ mostDigits → Puts mostDigits d at (decimal n) (set d′ at (digit rest)) (at + length (decimal n))
   first-digit h l =
       let o = length-one rest h in
       let p : i ≡ at + length (decimal rest) = f .place in
@@ -64,4 +63,5 @@ module _ (d : List ℕ) (at n : ℕ) (d′ : List ℕ) (i rest : ℕ) (f : Filli
             ∙ ap (λ (x : List ℕ). take at d ++ x ++ drop (at + length (decimal n)) d) (sym (f .whole ∙ ap (λ (x : List ℕ). x ++ f .tail) (decimal-one rest h)));
         ends = refl;
         short = l;
+        within = omega arith;
       }

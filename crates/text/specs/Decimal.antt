@@ -1,5 +1,4 @@
 -- A number as text: its decimal digits in ASCII, without leading zeros.
--- Assumes nothing.
 use Prim.Native.Nat.{ℕ, zero, suc, _+_, _/_, _%_}
 use mathlib.Core.Bool.{cond}
 use mathlib.Core.List.{List, [], _∷_, _++_}
@@ -17,3 +16,7 @@ decimalIn (suc most) n = cond (ltb n 10) (digit n ∷ []) (decimalIn most (n / 1
 -- the digits of n: no number has more digits than itself and one
 unfoldable pub decimal : ℕ → List ℕ
 decimal n = decimalIn (suc n) n
+
+-- a number of 64 bits has at most so many
+abbrev pub mostDigits : ℕ
+mostDigits = 20

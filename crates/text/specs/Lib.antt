@@ -2,4 +2,5 @@
 pub mod Decimal
 pub mod Words
 pub mod Line
+pub mod Rooms
 pub mod Puts

@@ -1,5 +1,4 @@
 -- The fixed words of the log, in ASCII (document 01, "It prints fixed words").
--- Assumes nothing.
 use Prim.Native.Nat.{ℕ}
 use mathlib.Core.List.{List, [], _∷_}
 

@@ -32,9 +32,9 @@ pub struct A110Times {
 }
 
 // U, the units of a second.
-const DVB_SECOND: u32 = 10_000_000;
+pub const DVB_SECOND: u32 = 10_000_000;
 
-const A110_SECOND: u32 = 0x127_E892;
+pub const A110_SECOND: u32 = 0x127_E892;
 
 // A time is at most u − 1.
 fn in_second(u: u32, t: u32) -> bool

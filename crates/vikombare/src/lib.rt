@@ -1,23 +1,26 @@
 // The calls that a board's firmware links, for C: a slave's start, packets in place, numbers notices and gaps, its saved block, and notices read and
 // written. include/vikombare.h is their header. No call has a condition on its numbers: bad input gets its number of document 01's table.
+use judging::Numbers;
 use notice::Notice;
 use notice::Reading;
 use replies::PacketReply;
 use slave::Shifted;
-use slave::Slave;
+use slave::Way;
+use state::Board;
+use state::Count;
+use state::Slave;
 use times::Periods;
 use times::Steps;
-use writer::Written;
+use writer::WriteOutcome;
 ghost use mathlib.Core.Path.{_≡_};
 ghost use lib.ListN.{length};
-ghost use Rattle.wire.specs.Reply.{numberOf};
-ghost use Rattle.notice.specs.Reader.{readOf, addressingPart};
-ghost use Rattle.writer.specs.Writer.{writeRefusal, writeOf};
-ghost use Rattle.slave.specs.Answer.{outcomeOf};
+ghost use Rattle.notice.specs.Mip.{addressingField};
+ghost use Rattle.notice.specs.Reader.{readOf};
+ghost use Rattle.writer.specs.Writer.{writeOf};
+ghost use Rattle.slave.specs.Answer.{shiftedOf};
 ghost use Rattle.slave.specs.Calls.{startOf, packetOf, numbersOf, gapOf};
-ghost use Rattle.saved.specs.Block.{saveReply, saveOf, resumeOf};
-ghost use Rattle.replies.specs.Flat.{flatReply};
-ghost use Rattle.vikombare.specs.Flat.{tickOn, flatNotice, flatChange};
+ghost use Rattle.saved.specs.Block.{saveOf, resumeOf};
+ghost use Rattle.vikombare.specs.Flat.{tickOn, flatChange, flatLeft, flatStep, dvbBoard, a110Board, filledWith, flatOutput, flatNotice};
 
 // An arrival tick with its clock: profile 0 counts steps of 100 ns, profile 1 bit periods.
 #[repr(C)]
@@ -50,7 +53,7 @@ pub struct NoticeRead {
 
 // The number and the slave of a start, a gap or a resume.
 fn change_of(r: Shifted) -> Change
-    ensures { λ c. ⌜ c ≡ flatChange (record { slave = r .slave; reply = outcomeOf (r .outcome) }) ⌝ }
+    ensures { λ c. ⌜ c ≡ flatChange (shiftedOf r) ⌝ }
 {
     let s = r.slave;
     let o = r.outcome;
@@ -60,65 +63,136 @@ fn change_of(r: Shifted) -> Change
     }
 }
 
+// The settings of a board of profile 0, and of profile 1.
+fn dvb_board(n: u16, site: u16, tad: Steps) -> Board
+    ensures { λ b. ⌜ b ≡ dvbBoard n site tad ⌝ }
+{
+    Board {
+        profile: 0,
+        n: n,
+        site: site,
+        tad: tad.0,
+    }
+}
+
+fn a110_board(n: u16, site: u16, tad: Periods) -> Board
+    ensures { λ b. ⌜ b ≡ a110Board n site tad ⌝ }
+{
+    Board {
+        profile: 1,
+        n: n,
+        site: site,
+        tad: tad.0,
+    }
+}
+
 // Starts a slave of profile 0.
 #[no_mangle]
 pub extern "C" fn vikombare_dvb_start(n: u16, site: u16, tad: Steps) -> Change
-    ensures { λ r. ⌜ r ≡ flatChange (startOf 0 n site (tad .0)) ⌝ }
+    ensures { λ r. ⌜ r ≡ flatChange (startOf (dvbBoard n site tad)) ⌝ }
 {
-    let r = slave::start(0, n, site, tad.0);
-    change_of(r)
+    change_of(slave::start(dvb_board(n, site, tad)))
 }
 
 // Starts a slave of profile 1.
 #[no_mangle]
 pub extern "C" fn vikombare_a110_start(n: u16, site: u16, tad: Periods) -> Change
-    ensures { λ r. ⌜ r ≡ flatChange (startOf 1 n site (tad .0)) ⌝ }
+    ensures { λ r. ⌜ r ≡ flatChange (startOf (a110Board n site tad)) ⌝ }
 {
-    let r = slave::start(1, n, site, tad.0);
-    change_of(r)
+    change_of(slave::start(a110_board(n, site, tad)))
 }
 
 // The tick as a count of the slave's own clock, or none.
-fn tick_on(s: Slave, tick: Tick) -> u32
-    ensures { λ r. ⌜ r ≡ tickOn (s .profile) tick ⌝ }
+fn tick_on(profile: u8, tick: Tick) -> u32
+    ensures { λ r. ⌜ r ≡ tickOn profile tick ⌝ }
 {
-    if s.profile == tick.profile {
+    if profile == tick.profile {
         return tick.count;
     } else {
         return 4294967295;
     }
 }
 
-// A packet with its arrival tick; the lent slave is updated in its own memory. A tick of the other clock is none of the slave's (3).
+// A packet with its arrival tick; of the lent slave, just what changes is stored. A tick of the other clock is none of the slave's (3).
 #[no_mangle]
 pub extern "C" fn vikombare_packet(s: &mut Slave, p: &[u8], tick: Tick) -> PacketReply
-    ensures { λ r. ⌜ (now (s .exit) ≡ packetOf (now (s .entry)) (now (p .entry)) (tickOn (now (s .entry) .profile) tick) .slave) × (r ≡ flatReply (packetOf (now (s .entry)) (now (p .entry)) (tickOn (now (s .entry) .profile) tick) .reply)) ⌝ }
+    ensures { λ r. ⌜ flatLeft (now (s .exit)) r ≡ flatStep (packetOf (now (s .entry)) (now (p .entry)) (tickOn (now (s .entry) .board .profile) tick)) ⌝ }
 {
-    let t = tick_on(*s, tick);
-    let a = slave::packet_in_place(s, p, t);
-    replies::reply_of(a)
+    let t = tick_on(s.board.profile, tick);
+    match slave::way_of(*s, p, t) {
+        Way::Short(q) => {
+            s.count.next = q.next;
+            return replies::reply_of(q.answer);
+        }
+        Way::Moved(m) => {
+            s.settings = m.settings;
+            s.count = m.count;
+            s.waiting = m.waiting;
+            return replies::reply_of(m.answer);
+        }
+        Way::Refused(k) => {
+            return replies::refused(k);
+        }
+        Way::Cold => {
+            *s = state::cold_slave();
+            return replies::refused(15);
+        }
+    }
 }
 
-// A packet that comes with a notice in numbers, profile 1. The slave is handed back.
+// A packet that comes with a notice in numbers, profile 1. The slave is handed back, built anew from its parts.
 #[no_mangle]
-pub extern "C" fn vikombare_numbers(
-    s: Slave,
-    p: &[u8],
-    tick: Periods,
-    pointer: u16,
-    sts: Periods,
-    md: Periods,
-    od: i16,
-    index: u8,
-) -> Step
-    ensures { λ r. ⌜ (r .slave ≡ numbersOf s (now (p .entry)) (tick .0) pointer (sts .0) (md .0) od index .slave) × (r .reply ≡ flatReply (numbersOf s (now (p .entry)) (tick .0) pointer (sts .0) (md .0) od index .reply)) ⌝ }
+pub extern "C" fn vikombare_numbers(s: Slave, p: &[u8], tick: Periods, x: Numbers) -> Step
+    ensures { λ r. ⌜ r ≡ flatStep (numbersOf s (now (p .entry)) (tick .0) x) ⌝ }
 {
-    let r = slave::numbers_notice(s, p, tick.0, pointer, sts.0, md.0, od, index);
-    let t = r.slave;
-    let a = r.answer;
-    Step {
-        slave: t,
-        reply: replies::reply_of(a),
+    match slave::numbers_way(s, p, tick.0, x) {
+        Way::Short(q) => {
+            let board = s.board;
+            let settings = s.settings;
+            let waiting = s.waiting;
+            let answer = q.answer;
+            return Step {
+                slave: Slave {
+                    board: board,
+                    settings: settings,
+                    count: Count {
+                        phase: s.count.phase,
+                        next: q.next,
+                        index: s.count.index,
+                    },
+                    waiting: waiting,
+                },
+                reply: replies::reply_of(answer),
+            };
+        }
+        Way::Moved(m) => {
+            let board = s.board;
+            let settings = m.settings;
+            let count = m.count;
+            let waiting = m.waiting;
+            let answer = m.answer;
+            return Step {
+                slave: Slave {
+                    board: board,
+                    settings: settings,
+                    count: count,
+                    waiting: waiting,
+                },
+                reply: replies::reply_of(answer),
+            };
+        }
+        Way::Refused(k) => {
+            return Step {
+                slave: s,
+                reply: replies::refused(k),
+            };
+        }
+        Way::Cold => {
+            return Step {
+                slave: state::cold_slave(),
+                reply: replies::refused(15),
+            };
+        }
     }
 }
 
@@ -127,14 +201,13 @@ pub extern "C" fn vikombare_numbers(
 pub extern "C" fn vikombare_gap(s: Slave, k: u16) -> Change
     ensures { λ r. ⌜ r ≡ flatChange (gapOf s k) ⌝ }
 {
-    let r = slave::gap(s, k);
-    change_of(r)
+    change_of(slave::gap(s, k))
 }
 
 // Saves a slave in the first 38 bytes that are lent; 0 or the number.
 #[no_mangle]
 pub extern "C" fn vikombare_save(s: Slave, out: &mut [u8]) -> u8
-    ensures { λ r. ⌜ (r ≡ numberOf (saveReply s (length (now (out .entry))))) × (now (out .exit) ≡ saveOf s (now (out .entry))) ⌝ }
+    ensures { λ r. ⌜ filledWith r (now (out .exit)) ≡ flatOutput (saveOf s (now (out .entry))) ⌝ }
 {
     replies::outcome_number(saved::save(s, out))
 }
@@ -142,25 +215,23 @@ pub extern "C" fn vikombare_save(s: Slave, out: &mut [u8]) -> u8
 // Resumes a saved slave on a board of profile 0.
 #[no_mangle]
 pub extern "C" fn vikombare_dvb_resume(block: &[u8], n: u16, site: u16, tad: Steps) -> Change
-    ensures { λ r. ⌜ r ≡ flatChange (resumeOf (now (block .entry)) 0 n site (tad .0)) ⌝ }
+    ensures { λ r. ⌜ r ≡ flatChange (resumeOf (now (block .entry)) (dvbBoard n site tad)) ⌝ }
 {
-    let r = saved::resume(block, 0, n, site, tad.0);
-    change_of(r)
+    change_of(saved::resume(block, dvb_board(n, site, tad)))
 }
 
 // Resumes a saved slave on a board of profile 1.
 #[no_mangle]
 pub extern "C" fn vikombare_a110_resume(block: &[u8], n: u16, site: u16, tad: Periods) -> Change
-    ensures { λ r. ⌜ r ≡ flatChange (resumeOf (now (block .entry)) 1 n site (tad .0)) ⌝ }
+    ensures { λ r. ⌜ r ≡ flatChange (resumeOf (now (block .entry)) (a110Board n site tad)) ⌝ }
 {
-    let r = saved::resume(block, 1, n, site, tad.0);
-    change_of(r)
+    change_of(saved::resume(block, a110_board(n, site, tad)))
 }
 
 // Reads a notice of profile 0.
 #[no_mangle]
 pub extern "C" fn vikombare_read(p: &[u8]) -> NoticeRead
-    ensures { λ r. ⌜ r ≡ flatNotice (readOf (now (p .entry))) (length (addressingPart (now (p .entry)))) ⌝ }
+    ensures { λ r. ⌜ r ≡ flatNotice (readOf (now (p .entry))) (length (addressingField (now (p .entry)))) ⌝ }
 {
     match notice::read_notice(p) {
         Reading::Accepted(n) => {
@@ -190,10 +261,10 @@ pub extern "C" fn vikombare_read(p: &[u8]) -> NoticeRead
 // Writes a notice of profile 0 in the first 188 bytes that are lent; 0 or the number.
 #[no_mangle]
 pub extern "C" fn vikombare_write(out: &mut [u8], n: Notice, field: &[u8]) -> u8
-    ensures { λ r. ⌜ (r ≡ writeRefusal (length (now (out .entry))) n (now (field .entry))) × (now (out .exit) ≡ writeOf (now (out .entry)) n (now (field .entry))) ⌝ }
+    ensures { λ r. ⌜ filledWith r (now (out .exit)) ≡ flatOutput (writeOf (now (out .entry)) n (now (field .entry))) ⌝ }
 {
     match writer::write_notice(out, n, field) {
-        Written::Done => 0,
-        Written::Refused(k) => k,
+        WriteOutcome::Done => 0,
+        WriteOutcome::Refused(k) => k,
     }
 }

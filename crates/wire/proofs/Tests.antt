@@ -1,12 +1,12 @@
 -- Laws of tests, and of a chain of refusals: what each test of the code says of the chain, and what a chain that gives no number has passed.
-use mathlib.Core.Path.{_≡_, refl, sym, ap, _∙_, subst}
+use mathlib.Core.Path.{_≡_, refl, ap}
 use mathlib.Core.Bool.{Bool, true, false, cond, _&&_, _||_}
 use mathlib.Core.List.{List}
 use Prim.Native.Nat.{ℕ, zero, suc}
 use native.Mathlib.Omega.{arith}
 use borrow.Author.Needs.{needs}
 use borrow.Author.Tests.{eq-eqb, ne-eqb, lt-ltb, le-ltb, le-leb, lt-leb}
-use Rattle.wire.specs.Reply.{Reply, refused, given, must, orElse, reply, numberOf, keptBy, Output, filled}
+use Rattle.wire.specs.Reply.{refused, given, must, orElse, reply, numberOf, keptBy, filled}
 
 -- a return out of a chain: each test on the way is rewritten by the branch that the code took
 pub ruleset tests = (needs, eq-eqb, ne-eqb, lt-ltb, le-ltb, le-leb, lt-leb)

@@ -2,9 +2,24 @@
 ghost use mathlib.Core.Path.{_≡_};
 ghost use Prim.Native.Nat.{_+_, _≤_};
 ghost use lib.ListN.{getD};
-ghost use Rattle.wire.specs.BigEndian.{be16At, be24At, be32At, bytes16, bytes24, bytes32};
+ghost use Rattle.wire.specs.BigEndian.{be16At, be24At, be32At, byte0, bytes16, bytes32};
 ghost use Rattle.wire.specs.Signed.{signed, signed16, signed24, signed32, bits16, bits32};
 ghost use Rattle.wire.specs.Put.{putAt};
+
+// Numbers that the standards fix: specs/Standards.antt says where.
+pub const PACKET_LENGTH: usize = 188;
+
+pub const SYNC_BYTE: u8 = 0x47;
+
+pub const MIP_PID: u16 = 0x15;
+
+pub const ADDRESSING_START: usize = 21;
+
+pub const SECTION_BESIDE: usize = 19;
+
+pub const CHECK_LENGTH: usize = 4;
+
+pub const LONGEST_ADDRESSING: usize = 163;
 
 // Byte i of b. Here and in the numbers below, bytes beyond the end read as 0.
 pub fn byte_at(b: &[u8], i: usize) -> u8
@@ -52,22 +67,19 @@ pub fn number32_at(b: &[u8], i: usize) -> u32
     (high as u32) * 16777216 + low
 }
 
+// The lowest byte of a number.
+pub fn low_byte(w: u32) -> u8
+    ensures { λ r. ⌜ r ≡ byte0 w ⌝ }
+{
+    (w % 256) as u8
+}
+
 // The bytes of a number of 16 bits.
 pub fn bytes_16(w: u16) -> [u8; 2]
     ensures { λ r. ⌜ r ≡ bytes16 w ⌝ }
 {
-    [(w / 256 % 256) as u8, (w % 256) as u8]
-}
-
-// The lowest 24 bits of a number as bytes.
-pub fn bytes_24(w: u32) -> [u8; 3]
-    ensures { λ r. ⌜ r ≡ bytes24 w ⌝ }
-{
-    [
-        (w / 65536 % 256) as u8,
-        (w / 256 % 256) as u8,
-        (w % 256) as u8,
-    ]
+    let v = w as u32;
+    [low_byte(v / 256), low_byte(v)]
 }
 
 // The bytes of a number of 32 bits.
@@ -75,10 +87,10 @@ pub fn bytes_32(w: u32) -> [u8; 4]
     ensures { λ r. ⌜ r ≡ bytes32 w ⌝ }
 {
     [
-        (w / 16777216 % 256) as u8,
-        (w / 65536 % 256) as u8,
-        (w / 256 % 256) as u8,
-        (w % 256) as u8,
+        low_byte(w / 16777216),
+        low_byte(w / 65536),
+        low_byte(w / 256),
+        low_byte(w),
     ]
 }
 

@@ -4,22 +4,21 @@
 --     rewrite-accepted    what was read is accepted by the writer
 --     read-written        what is read and written again is the same packet, where its stuffing is 0xFF
 --     one-bit-refused     an accepted packet with one bit of its bytes 0 to 24 + a flipped is refused
--- Assumes nothing.
 use mathlib.Core.Path.{_≡_, refl, sym, ap, ap₂, _∙_, subst}
 use mathlib.Core.Bool.{Bool, true, false, cond}
-use mathlib.Core.List.{List, [], _∷_, _++_, append-assoc}
-use Prim.Native.Nat.{ℕ, zero, suc, _+_, _-_, _*_, _/_, _%_, _≤_, _<_, _^_}
+use mathlib.Core.List.{List, _++_, append-assoc}
+use Prim.Native.Nat.{ℕ, zero, suc, _+_, _-_, _%_, _≤_, _<_, _^_}
 use native.Mathlib.Decide.{ℕ-discrete}
 use native.Mathlib.Omega.{arith}
 use lib.Bits.{bitXor}
-use lib.Dec.{leb, ltb}
-use lib.ListN.{length, take, drop, getD, set, length-append, length-drop, length-set, take-append-drop}
-use lib.Seq.{take-at, take-add, take-append-le, length-take-le, getD-take, getD-set-same, getD-set-other, take-set-lt}
-use borrow.Author.Tests.{leb-true, le-leb, lt-leb, ltb-true}
-use Rattle.wire.specs.Reply.{Reply, refused, given, reply}
-use Rattle.wire.specs.Standards.{dvbSecond}
+use lib.Dec.{leb}
+use lib.ListN.{length, take, drop, getD, set, length-append, length-drop, take-append-drop}
+use lib.Seq.{take-at, take-add, length-take-le, getD-take, getD-set-same, getD-set-other, take-set-lt}
+use borrow.Author.Tests.{le-leb, lt-leb, ltb-true}
+use Rattle.wire.specs.Reply.{refused, given, reply, Output}
+use Rattle.wire.specs.Standards.{packetLength, longestAddressing, dvbSecond}
 use Rattle.wire.specs.BigEndian.{be16, byte0, byte1, bytes32}
-use Rattle.wire.proofs.Tests.{kept-new}
+use Rattle.wire.proofs.Tests.{given-output}
 use Rattle.wire.proofs.Numbers.{spelled16, spelled24, spelled32}
 use Rattle.wire.proofs.Bytes.{Bytes, take-bytes, elements, elements-are}
 use Rattle.check_value.specs.Register.{register, sealed}
@@ -27,13 +26,13 @@ use Rattle.check_value.proofs.Sealing.{sealed-length}
 use Rattle.check_value.proofs.Laws.{leaves-zero, zero-only, flipped, flip-differs, misses-no-bit}
 use Rattle.times.specs.Release.{inSecond}
 use Rattle.addressing.specs.Entries.{wellFormed}
-use Rattle.notice.specs.Mip.{individualAddressingLength, addressingField, throughCheck, noticeOf}
+use Rattle.notice.specs.Mip.{individualAddressingLength, addressingField, throughCheck, noticeIn}
 use Rattle.writer.specs.Writable.{Writable}
-use Rattle.notice.specs.Reader.{readRefusal, readOf, addressingOf}
-use Rattle.writer.specs.Writer.{writeRefusal, flagsOf, headOf, fieldsOf, stuffing, packetOf, writeOf}
+use Rattle.notice.specs.Reader.{readRefusal, readOf}
+use Rattle.writer.specs.Writer.{writeRefusal, headOf, fieldsOf, stuffing, mipOf, writeOf}
 use Rattle.notice.specs.declared.Notice.{Notice}
-use Rattle.notice.proofs.Sound.{Sound, accepted-sound, sound-accepted, sound-reads, reads-sound}
-use Rattle.writer.proofs.Writing.{head-length, fields-length, length-stuffing, judged, write-fits, write-none}
+use Rattle.notice.proofs.Sound.{Sound, accepted-sound, sound-reads, reads-sound}
+use Rattle.writer.proofs.Writing.{fields-length, length-stuffing, judged, write-fits, write-none}
 use Rattle.writer.proofs.Front.{head-again}
 
 -- ---- written, then read
@@ -57,34 +56,34 @@ bits-back true r h = omega arith
 bits-back false r h = omega arith
 
 module _ (n : Notice) (f : List ℕ) (space : ℕ) (w : Writable space n f) where
-  packet-parts : packetOf n f ≡ sealed (fieldsOf n f) ++ stuffing (163 - length f)
-  unfolding packetOf
+  packet-parts : mipOf n f ≡ sealed (fieldsOf n f) ++ stuffing (longestAddressing - length f)
+  unfolding mipOf
   packet-parts = refl
 
   sealed-end : length (sealed (fieldsOf n f)) ≡ 25 + length f
   sealed-end = sealed-length (fieldsOf n f) ∙ omega (arith, fields-length n f)
 
-  packet-length : length (packetOf n f) ≡ 188
+  packet-length : length (mipOf n f) ≡ packetLength
   packet-length =
       ap length packet-parts
-      ∙ length-append (sealed (fieldsOf n f)) (stuffing (163 - length f))
-      ∙ omega (arith, sealed-end, length-stuffing (163 - length f), w .short)
+      ∙ length-append (sealed (fieldsOf n f)) (stuffing (longestAddressing - length f))
+      ∙ omega (arith, sealed-end, length-stuffing (longestAddressing - length f), w .short)
 
-  packet-check : register (take (25 + length f) (packetOf n f)) ≡ 0
+  packet-check : register (take (25 + length f) (mipOf n f)) ≡ 0
   packet-check =
       ap (λ (s : List ℕ). register (take (25 + length f) s)) packet-parts
-      ∙ ap register (take-at (sealed (fieldsOf n f)) (stuffing (163 - length f)) (25 + length f) sealed-end)
+      ∙ ap register (take-at (sealed (fieldsOf n f)) (stuffing (longestAddressing - length f)) (25 + length f) sealed-end)
       ∙ leaves-zero (fieldsOf n f)
 
-  packet-field : take (length f) (drop 21 (packetOf n f)) ≡ f
-  unfolding packetOf fieldsOf headOf
+  packet-field : take (length f) (drop 21 (mipOf n f)) ≡ f
+  unfolding mipOf fieldsOf headOf
   packet-field =
-      ap (take (length f)) (append-assoc f (bytes32 (register (fieldsOf n f))) (stuffing (163 - length f)))
-      ∙ take-at f (bytes32 (register (fieldsOf n f)) ++ stuffing (163 - length f)) (length f) refl
+      ap (take (length f)) (append-assoc f (bytes32 (register (fieldsOf n f))) (stuffing (longestAddressing - length f)))
+      ∙ take-at f (bytes32 (register (fieldsOf n f)) ++ stuffing (longestAddressing - length f)) (length f) refl
 
   module _ (e : writeRefusal space n f ≡ 0) (k : Fits n) where
-    packet-notice : noticeOf (packetOf n f) ≡ n
-    unfolding packetOf fieldsOf headOf
+    packet-notice : noticeIn (mipOf n f) ≡ n
+    unfolding mipOf fieldsOf headOf
     packet-notice =
         let j = judged space n f e in
         let c : (0x10 + n .continuity) % 16 ≡ n .continuity = omega (arith, w .counter) in
@@ -98,8 +97,8 @@ module _ (n : Notice) (f : List ℕ) (space : ℕ) (w : Writable space n f) wher
           tps = spelled32 (n .tps) (k .tps) i;
         }
 
-    packet-sound : Sound (packetOf n f)
-    unfolding packetOf fieldsOf headOf
+    packet-sound : Sound (mipOf n f)
+    unfolding mipOf fieldsOf headOf
     packet-sound =
         let j = judged space n f e in
         record {
@@ -123,24 +122,21 @@ module _ (out : List ℕ) (n : Notice) (f : List ℕ) (e : writeRefusal (length 
   fitting : Writable (length out) n f
   fitting = write-fits (length out) n f e
 
-  left : take 188 (writeOf out n f) ≡ packetOf n f
+  left : take packetLength (writeOf out n f .bytes) ≡ mipOf n f
   unfolding writeOf
   left =
-      ap (take 188) (kept-new _ out (packetOf n f ++ drop 188 out) e)
-      ∙ take-at (packetOf n f) (drop 188 out) 188 (packet-length n f (length out) fitting)
+      ap (λ (o : Output). take packetLength (o .bytes)) (given-output _ out (mipOf n f ++ drop packetLength out) e)
+      ∙ take-at (mipOf n f) (drop packetLength out) packetLength (packet-length n f (length out) fitting)
 
-  pub written-read : readOf (take 188 (writeOf out n f)) ≡ given n
+  pub written-read : readOf (take packetLength (writeOf out n f .bytes)) ≡ given n
   written-read =
       ap readOf left
-      ∙ sound-reads (packetOf n f) (packet-sound n f (length out) fitting e k)
+      ∙ sound-reads (mipOf n f) (packet-sound n f (length out) fitting e k)
       ∙ ap given (packet-notice n f (length out) fitting e k)
 
-  pub written-addressing : addressingOf (take 188 (writeOf out n f)) ≡ f
-  unfolding addressingOf packetOf fieldsOf headOf
-  written-addressing =
-      ap addressingOf left
-      ∙ kept-new _ [] (addressingField (packetOf n f)) (sound-accepted (packetOf n f) (packet-sound n f (length out) fitting e k))
-      ∙ packet-field n f (length out) fitting
+  pub written-addressing : addressingField (take packetLength (writeOf out n f .bytes)) ≡ f
+  unfolding mipOf fieldsOf headOf
+  written-addressing = ap addressingField left ∙ packet-field n f (length out) fitting
 
 -- ---- read, then written
 
@@ -151,13 +147,13 @@ module _ (s : List ℕ) (n : Notice) (e : readOf s ≡ given n) (bytes : Bytes s
   field-length : length (addressingField s) ≡ individualAddressingLength s
   field-length = length-take-le (individualAddressingLength s) (drop 21 s) (omega (arith, length-drop 21 s, sound .long, sound .room))
 
-  head-front : headOf (noticeOf s) (length (addressingField s)) ≡ take 21 s
+  head-front : headOf (noticeIn s) (length (addressingField s)) ≡ take 21 s
   head-front =
-      ap (headOf (noticeOf s)) field-length
+      ap (headOf (noticeIn s)) field-length
       ∙ head-again s sound bytes
       ∙ sym (elements-are 21 0 s (omega (arith, sound .long)))
 
-  fields-front : fieldsOf (noticeOf s) (addressingField s) ≡ take (21 + individualAddressingLength s) s
+  fields-front : fieldsOf (noticeIn s) (addressingField s) ≡ take (21 + individualAddressingLength s) s
   unfolding fieldsOf
   fields-front =
       ap (λ (h : List ℕ). h ++ addressingField s) head-front
@@ -175,17 +171,13 @@ module _ (s : List ℕ) (n : Notice) (e : readOf s ≡ given n) (bytes : Bytes s
       (bytes m) (bytes (suc m)) (bytes (suc (suc m))) (bytes (suc (suc (suc m))))
       (ap register (sym all) ∙ sound .check)
 
-  same-field : addressingOf s ≡ addressingField s
-  unfolding addressingOf
-  same-field = kept-new _ [] (addressingField s) (sound-accepted s sound)
-
   -- the notice and the addressing field that were read are accepted by the writer, for any output with room
-  pub rewrite-accepted : (space : ℕ) → 188 ≤ space → writeRefusal space n (addressingOf s) ≡ 0
+  pub rewrite-accepted : (space : ℕ) → packetLength ≤ space → writeRefusal space n (addressingField s) ≡ 0
   rewrite-accepted space h =
-      subst (λ (m : Notice). writeRefusal space m (addressingOf s) ≡ 0) (reads-sound s n e .1)
-      (ap (writeRefusal space (noticeOf s)) same-field ∙ sym (write-none space (noticeOf s) (addressingField s) room (sound .form) (sound .sts) (sound .md)))
+      subst (λ (m : Notice). writeRefusal space m (addressingField s) ≡ 0) (reads-sound s n e .1)
+      (sym (write-none space (noticeIn s) (addressingField s) room (sound .form) (sound .sts) (sound .md)))
     where
-      room : Writable space (noticeOf s) (addressingField s)
+      room : Writable space (noticeIn s) (addressingField s)
       room =
           record {
             room = h;
@@ -195,29 +187,29 @@ module _ (s : List ℕ) (n : Notice) (e : readOf s ≡ given n) (bytes : Bytes s
           }
 
   -- where the stuffing is 0xFF, the packet that they make is the packet that was read
-  pub same-packet : drop (25 + individualAddressingLength s) s ≡ stuffing (163 - individualAddressingLength s) → packetOf n (addressingOf s) ≡ s
-  unfolding packetOf
+  pub same-packet : drop (25 + individualAddressingLength s) s ≡ stuffing (longestAddressing - individualAddressingLength s) → mipOf n (addressingField s) ≡ s
+  unfolding mipOf
   same-packet rest =
-      subst (λ (m : Notice). packetOf m (addressingOf s) ≡ s) (reads-sound s n e .1)
-      (ap (packetOf (noticeOf s)) same-field ∙ whole)
+      subst (λ (m : Notice). mipOf m (addressingField s) ≡ s) (reads-sound s n e .1)
+      whole
     where
-      whole : packetOf (noticeOf s) (addressingField s) ≡ s
+      whole : mipOf (noticeIn s) (addressingField s) ≡ s
       whole =
           let m : ℕ = 21 + individualAddressingLength s in
           let count : m + 4 ≡ 25 + individualAddressingLength s = omega arith in
-          ap₂ (λ (x : List ℕ) (k : ℕ). sealed x ++ stuffing (163 - k)) fields-front field-length
-          ∙ ap (λ (c : List ℕ). take m s ++ c ++ stuffing (163 - individualAddressingLength s)) (sym check-bytes)
-          ∙ ap (λ (x : List ℕ). x ++ stuffing (163 - individualAddressingLength s)) (sym (take-add m 4 s) ∙ ap (λ (j : ℕ). take j s) count)
+          ap₂ (λ (x : List ℕ) (k : ℕ). sealed x ++ stuffing (longestAddressing - k)) fields-front field-length
+          ∙ ap (λ (c : List ℕ). take m s ++ c ++ stuffing (longestAddressing - individualAddressingLength s)) (sym check-bytes)
+          ∙ ap (λ (x : List ℕ). x ++ stuffing (longestAddressing - individualAddressingLength s)) (sym (take-add m 4 s) ∙ ap (λ (j : ℕ). take j s) count)
           ∙ ap (λ (x : List ℕ). take (25 + individualAddressingLength s) s ++ x) (sym rest)
           ∙ take-append-drop (25 + individualAddressingLength s) s
 
   -- written into any output with room, they give it the packet that was read, and keep all bytes after it
-  pub read-written : (out : List ℕ) → 188 ≤ length out → drop (25 + individualAddressingLength s) s ≡ stuffing (163 - individualAddressingLength s)
-      → writeOf out n (addressingOf s) ≡ s ++ drop 188 out
+  pub read-written : (out : List ℕ) → packetLength ≤ length out → drop (25 + individualAddressingLength s) s ≡ stuffing (longestAddressing - individualAddressingLength s)
+      → writeOf out n (addressingField s) ≡ record { reply = given tt; bytes = s ++ drop packetLength out }
   unfolding writeOf
   read-written out h rest =
-      kept-new _ out (packetOf n (addressingOf s) ++ drop 188 out) (rewrite-accepted (length out) h)
-      ∙ ap (λ (x : List ℕ). x ++ drop 188 out) (same-packet rest)
+      given-output _ out (mipOf n (addressingField s) ++ drop packetLength out) (rewrite-accepted (length out) h)
+      ∙ ap (λ (x : List ℕ). record { reply = given tt; bytes = x ++ drop packetLength out }) (same-packet rest)
 
 -- ---- one bit
 
@@ -260,4 +252,4 @@ one-bit-refused s n e bytes i b hi hb = go (readRefusal (flipped s i b)) refl
 
     go : (v : ℕ) → readRefusal (flipped s i b) ≡ v → (r : ℕ) × (readOf (flipped s i b) ≡ refused (suc r))
     go zero z = absurd (never (accepted-sound (flipped s i b) z))
-    go (suc r) z = (r, ap (λ (v : ℕ). reply v (noticeOf (flipped s i b))) z)
+    go (suc r) z = (r, ap (λ (v : ℕ). reply v (noticeIn (flipped s i b))) z)

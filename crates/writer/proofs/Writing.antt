@@ -1,11 +1,10 @@
 -- The writer's pieces, put one behind the other, are the packet.
--- Assumes nothing.
-use mathlib.Core.Path.{_≡_, refl, sym, ap, ap₂, _∙_, subst}
-use mathlib.Core.Bool.{Bool, true, false}
-use mathlib.Core.List.{List, [], _∷_, _++_}
-use Prim.Native.Nat.{ℕ, zero, suc, _+_, _-_, _≤_, _<_}
+use mathlib.Core.Path.{_≡_, refl, sym, ap, ap₂, _∙_}
+use mathlib.Core.Bool.{true, false}
+use mathlib.Core.List.{List, _∷_, _++_}
+use Prim.Native.Nat.{ℕ, zero, suc, _+_, _-_, _≤_}
 use native.Mathlib.Omega.{arith}
-use lib.ListN.{length, take, drop, replicate, length-append, length-replicate}
+use lib.ListN.{length, take, drop, length-append, length-replicate}
 use lib.Seq.{take-at, length-take-le}
 use lib.Dec.{leb}
 use borrow.Author.Tests.{leb-true, le-leb}
@@ -19,7 +18,7 @@ use Rattle.check_value.proofs.Sealing.{sealed-length}
 use Rattle.times.specs.Release.{inSecond}
 use Rattle.addressing.specs.Entries.{wellFormed}
 use Rattle.writer.specs.Writable.{Writable}
-use Rattle.writer.specs.Writer.{writeRefusal, headOf, fieldsOf, stuffing, packetOf}
+use Rattle.writer.specs.Writer.{writeRefusal, headOf, fieldsOf, stuffing, mipOf}
 use Rattle.notice.specs.declared.Notice.{Notice}
 
 pub head-length : (n : Notice) (a : ℕ) → length (headOf n a) ≡ 21
@@ -64,8 +63,8 @@ pub packet-put : (n : Notice) (f d d₁ d₂ d₃ : List ℕ) → length f ≤ 1
     → d₁ ≡ fieldsOf n f ++ drop (21 + length f) d
     → d₂ ≡ sealed (take (21 + length f) d₁) ++ drop (21 + length f + 4) d₁
     → d₃ ≡ take (21 + length f + 4) d₂ ++ stuffing (188 - (21 + length f + 4)) ++ drop 188 d₂
-    → d₃ ≡ packetOf n f ++ drop 188 d
-unfolding packetOf
+    → d₃ ≡ mipOf n f ++ drop 188 d
+unfolding mipOf
 packet-put n f d d₁ d₂ d₃ h p₁ p₂ p₃ =
     let e : ℕ = 21 + length f in
     let front : take e d₁ ≡ fieldsOf n f = ap (take e) p₁ ∙ take-at (fieldsOf n f) (drop e d) e (fields-length n f) in

@@ -1,5 +1,4 @@
 -- `addressing::length_fits` meets its contract.
--- Assumes nothing.
 use Rattle.wire.proofs.Tests.{tests}
 use Rattle.addressing.specs.Functions.{lengthFits}
 use Rattle.addressing.proofs.length_fits.Statement.{statement}

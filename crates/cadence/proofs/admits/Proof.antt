@@ -1,5 +1,4 @@
 -- `cadence::admits` meets its contract.
--- Assumes nothing.
 use borrow.Author.Needs.{needs}
 use Rattle.wire.proofs.Tests.{tests}
 use Rattle.cadence.specs.Cadence.{admits}

@@ -1,5 +1,4 @@
 -- `cadence::at_some_rate` meets its contract: the five numbers are the constellation's five lengths.
--- Assumes nothing.
 use borrow.Author.Needs.{needs}
 use Rattle.cadence.specs.Cadence.{atSomeRate}
 use Rattle.cadence.proofs.at_some_rate.Statement.{statement}

@@ -1,5 +1,4 @@
 -- `cadence::is_mega_frame` meets its contract: the constellations are tried in order.
--- Assumes nothing.
 use borrow.Author.Needs.{needs}
 use Rattle.cadence.specs.Cadence.{isMegaFrame}
 use Rattle.cadence.proofs.is_mega_frame.Statement.{statement}

@@ -1,5 +1,4 @@
 -- `cadence::label_of` meets its contract.
--- Assumes nothing.
 use borrow.Author.Needs.{needs}
 use Rattle.wire.proofs.Tests.{tests}
 use Rattle.cadence.proofs.label_of.Statement.{statement}

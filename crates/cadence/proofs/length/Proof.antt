@@ -1,5 +1,4 @@
 -- `cadence::length` meets its contract: each step fits its width, and its value is the definition's.
--- Assumes nothing.
 use native.Mathlib.Omega.{arith}
 use lib.Dec.{lit≤}
 use borrow.Author.Needs.{needs}

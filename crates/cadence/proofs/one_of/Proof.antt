@@ -1,5 +1,4 @@
 -- `cadence::one_of` meets its contract.
--- Assumes nothing.
 use Rattle.wire.proofs.Tests.{tests}
 use Rattle.cadence.proofs.one_of.Statement.{statement}
 use Rattle.cadence.proofs.one_of.Tie as tie

@@ -1,60 +1,75 @@
--- `nibble_in` meets its contract, by the table's rule at the one entry that it reads.
--- Assumes nothing.
-use mathlib.Core.Path.{_≡_, ap₂, _∙_}
-use Prim.Native.Nat.{ℕ, _+_, _*_, _/_, _%_, _^_}
+-- `nibble_in` meets its contract: an arm's sum is what its nibble leaves.
 use native.Mathlib.Omega.{arith}
-use borrow.Author.Needs.{needs}
-use Rattle.check_value.specs.Table.{leftOf}
+use Rattle.check_value.proofs.Nibbles.{NoneOf, nothing, sum, at, last}
 use Rattle.check_value.proofs.nibble_in.Statement.{statement}
 use Rattle.check_value.proofs.nibble_in.Tie as tie
 
-add-result : tie.Need-add-result
-add-result c = search needs
-
-mul-result : tie.Need-mul-result
-mul-result c = search needs
-
-mul-result-2 : tie.Need-mul-result-2
-mul-result-2 c = search needs
-
-cast-result : tie.Need-cast-result
-cast-result c = search needs
-
-shr-result : tie.Need-shr-result
-shr-result c = search needs
-
-cast-result-2 : tie.Need-cast-result-2
-cast-result-2 c = search needs
-
-add-result-2 : tie.Need-add-result-2
-add-result-2 c = search needs
-
-mul-result-3 : tie.Need-mul-result-3
-mul-result-3 c = search needs
-
-element-copy-out-result : tie.Need-element-copy-out-result
-element-copy-out-result c = search needs
-
 returns : tie.Need-returns
-returns c =
-    let a = c .before .args in
-    let v : ℕ = a .w / 2 ^ (a .p * 4) % 16 in
-    let k : ℕ = (a .m + a .p) * 16 + v in
-    let low : k % 16 ≡ v = omega arith in
-    let high : k / 16 ≡ a .m + a .p = omega arith in
-    c .before .pre .0 .entry k (omega arith) ∙ ap₂ (λ (x y : ℕ). leftOf 4 x (y * 4)) low high
+returns c m _ _ _ _ = at m (c .match .keys1) (nothing m)
+
+returns-2 : tie.Need-returns-2
+returns-2 c m h₀ _ _ _ = at m (c .match .keys2) h₀
+
+returns-3 : tie.Need-returns-3
+returns-3 c m _ h₁ _ _ = at m (c .match .keys3) h₁
+
+returns-4 : tie.Need-returns-4
+returns-4 c m h₀ h₁ _ _ = at m (c .match .keys4) (sum m 1 2 h₀ h₁)
+
+returns-5 : tie.Need-returns-5
+returns-5 c m _ _ h₂ _ = at m (c .match .keys5) h₂
+
+returns-6 : tie.Need-returns-6
+returns-6 c m h₀ _ h₂ _ = at m (c .match .keys6) (sum m 1 4 h₀ h₂)
+
+returns-7 : tie.Need-returns-7
+returns-7 c m _ h₁ h₂ _ = at m (c .match .keys7) (sum m 2 4 h₁ h₂)
+
+returns-8 : tie.Need-returns-8
+returns-8 c m h₀ h₁ h₂ _ = at m (c .match .keys8) (sum m 3 4 (sum m 1 2 h₀ h₁) h₂)
+
+returns-9 : tie.Need-returns-9
+returns-9 c m _ _ _ h₃ = at m (c .match .keys9) h₃
+
+returns-10 : tie.Need-returns-10
+returns-10 c m h₀ _ _ h₃ = at m (c .match .keys10) (sum m 1 8 h₀ h₃)
+
+returns-11 : tie.Need-returns-11
+returns-11 c m _ h₁ _ h₃ = at m (c .match .keys11) (sum m 2 8 h₁ h₃)
+
+returns-12 : tie.Need-returns-12
+returns-12 c m h₀ h₁ _ h₃ = at m (c .match .keys12) (sum m 3 8 (sum m 1 2 h₀ h₁) h₃)
+
+returns-13 : tie.Need-returns-13
+returns-13 c m _ _ h₂ h₃ = at m (c .match .keys13) (sum m 4 8 h₂ h₃)
+
+returns-14 : tie.Need-returns-14
+returns-14 c m h₀ _ h₂ h₃ = at m (c .match .keys14) (sum m 5 8 (sum m 1 4 h₀ h₂) h₃)
+
+returns-15 : tie.Need-returns-15
+returns-15 c m _ h₁ h₂ h₃ = at m (c .match .keys15) (sum m 6 8 (sum m 2 4 h₁ h₂) h₃)
+
+returns-16 : tie.Need-returns-16
+unfolding NoneOf
+returns-16 c m h₀ h₁ h₂ h₃ = at m (last 15 _ (omega arith) (c .match .rest)) (sum m 7 8 (sum m 3 4 (sum m 1 2 h₀ h₁) h₂) h₃)
 
 pub nibble-in-spec : {M : Type 1} → statement M
 nibble-in-spec =
     tie.close
     (tie.spec
-    add-result
-    mul-result
-    mul-result-2
-    cast-result
-    shr-result
-    cast-result-2
-    add-result-2
-    mul-result-3
-    element-copy-out-result
-    returns)
+    returns
+    returns-2
+    returns-3
+    returns-4
+    returns-5
+    returns-6
+    returns-7
+    returns-8
+    returns-9
+    returns-10
+    returns-11
+    returns-12
+    returns-13
+    returns-14
+    returns-15
+    returns-16)

@@ -1,12 +1,13 @@
 -- `check_value::seal` meets its contract.
--- Assumes nothing.
 use borrow.Author.Needs.{needs}
-use mathlib.Core.Path.{sym, _∙_}
+use mathlib.Core.Path.{sym, ap, _∙_}
 use native.Mathlib.Omega.{arith}
 use lib.Seq.{length-take-le}
 use denote.Ref.{now}
+use Rattle.wire.specs.BigEndian.{bytes32}
+use Rattle.wire.specs.Put.{putAt}
 use Rattle.wire.proofs.Puts.{put-fits}
-use Rattle.check_value.proofs.Sealing.{seal-put, seal-fits, seal-over}
+use Rattle.check_value.proofs.Sealing.{seal-fits, seal-over}
 use Rattle.check_value.proofs.seal.Statement.{statement}
 use Rattle.check_value.proofs.seal.Tie as tie
 
@@ -28,17 +29,8 @@ slice-aggregate-register-of c = sym (length-take-le _ _ (omega arith))
 register-of-requires : tie.Need-register-of-requires
 register-of-requires c κs = search needs
 
-fourth-byte-requires : tie.Need-fourth-byte-requires
-fourth-byte-requires c κs = search needs
-
-third-byte-requires : tie.Need-third-byte-requires
-third-byte-requires c κs = search needs
-
-second-byte-requires : tie.Need-second-byte-requires
-second-byte-requires c κs = search needs
-
-low-byte-requires : tie.Need-low-byte-requires
-low-byte-requires c κs = search needs
+bytes-32-requires : tie.Need-bytes-32-requires
+bytes-32-requires c κs = search needs
 
 slice-aggregate-put : tie.Need-slice-aggregate-put
 slice-aggregate-put c = search needs
@@ -51,11 +43,13 @@ same-length c = search needs
 
 returns-3 : tie.Need-returns-3
 returns-3 c =
-    let a = c .before .before .before .before .before .before .before .before .before .before .before .before .before .before .args in
-    seal-put (now (a .out)) (c .before .before .put .last .0) (a .end) (c .before .before .before .before .before .before .before .before .before .register-of .result) (c .before .before .before .before .before .before .before .before .fourth-byte .result) (c .before .before .before .before .before .before .before .third-byte .result) (c .before .before .before .before .before .before .second-byte .result) (c .before .before .before .before .before .low-byte .result)
-    (c .before .before .before .before .before .before .before .before .before .register-of .ensures) (c .before .before .before .before .before .before .before .before .fourth-byte .ensures) (c .before .before .before .before .before .before .before .third-byte .ensures) (c .before .before .before .before .before .before .second-byte .ensures) (c .before .before .before .before .before .low-byte .ensures)
-    (c .before .before .put .ensures ∙ put-fits (now (a .out)) (a .end) _ (search needs))
-    ∙ sym (seal-fits (a .end) (now (a .out)) (search needs))
+    let b = c .before .before .before .before .before in
+    let a = b .before .before .before .before .before .before .args in
+    let d = now (a .out) in
+    c .before .before .put .ensures
+    ∙ ap (putAt d (a .end)) (b .bytes-32 .ensures ∙ ap bytes32 (b .before .register-of .ensures))
+    ∙ put-fits d (a .end) _ (search needs)
+    ∙ sym (seal-fits (a .end) d (search needs))
 
 pub seal-spec : {M : Type 1} → statement M
 seal-spec =
@@ -67,10 +61,7 @@ seal-spec =
     slice-reshare-prefix-register-of
     slice-aggregate-register-of
     register-of-requires
-    fourth-byte-requires
-    third-byte-requires
-    second-byte-requires
-    low-byte-requires
+    bytes-32-requires
     slice-aggregate-put
     put-requires
     same-length

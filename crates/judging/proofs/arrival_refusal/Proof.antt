@@ -1,8 +1,7 @@
 -- `judging::arrival_refusal` meets its contract.
--- Assumes nothing.
-use mathlib.Core.Path.{sym, _∙_}
-use denote.Ref.{now}
 use borrow.Author.Needs.{needs}
+use mathlib.Core.Path.{_≡_, refl, sym, ap, _∙_}
+use denote.Ref.{now}
 use borrow.Author.Tests.{not-true, not-false}
 use Rattle.wire.proofs.Tests.{tests}
 use Rattle.judging.specs.Judge.{arrivalRefusal}
@@ -27,13 +26,14 @@ in-second-requires c κs = search needs
 returns-3 : tie.Need-returns-3
 returns-3 c =
     let a = c .before .before .before .before .before .before .args in
-    arrival-3 (a .b) (now (a .p)) (a .tick) (c .before .before .before .before .if1 .left) (c .before .before .if2 .left) (sym (c .before .in-second .ensures) ∙ not-true _ (c .if3 .taken))
+    arrival-3 (a .profile) (now (a .p)) (a .tick) (c .before .before .before .before .if1 .left) (c .before .before .if2 .left) (sym (c .before .in-second .ensures) ∙ not-true _ (c .if3 .taken))
 
 returns-4 : tie.Need-returns-4
 returns-4 c =
     let a = c .before .before .before .before .before .before .args in
-    arrival-none (a .b) (now (a .p)) (a .tick) (c .before .before .before .before .if1 .left) (c .before .before .if2 .left) (sym (c .before .in-second .ensures) ∙ not-false _ (c .if3 .left))
+    arrival-none (a .profile) (now (a .p)) (a .tick) (c .before .before .before .before .if1 .left) (c .before .before .if2 .left) (sym (c .before .in-second .ensures) ∙ not-false _ (c .if3 .left))
 
 pub arrival-refusal-spec : {M : Type 1} → statement M
 arrival-refusal-spec =
-    tie.close (tie.spec returns shared-slice-read-sync returns-2 in-second-requires returns-3 returns-4)
+    tie.close
+    (tie.spec returns shared-slice-read-sync returns-2 in-second-requires returns-3 returns-4)

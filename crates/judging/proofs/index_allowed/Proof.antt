@@ -1,5 +1,4 @@
 -- `judging::index_allowed` meets its contract.
--- Assumes nothing.
 use Rattle.wire.proofs.Tests.{tests}
 use Rattle.judging.proofs.index_allowed.Statement.{statement}
 use Rattle.judging.proofs.index_allowed.Tie as tie

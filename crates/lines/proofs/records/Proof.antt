@@ -1,36 +1,26 @@
--- `lines::records` meets its contract. The loop's invariant: the first `done` records are handled, their lines stand at the front of the
--- output, and there is room for the rest.
--- Assumes nothing.
+-- `lines::records` meets its contract. The loop's invariant: the first `done` records are handled, and there is room for the rest.
 use borrow.Author.Needs.{needs}
-use mathlib.Core.Path.{_≡_, refl, sym, ap, _∙_}
-use Prim.Native.Nat.{ℕ, suc, _+_, _-_, _*_, _≤_}
-use native.Mathlib.Numerals.{add-one}
 use native.Mathlib.Omega.{arith}
+use mathlib.Core.Path.{_≡_, refl}
+use Prim.Native.Nat.{_+_, _-_, _*_, _≤_}
 use lib.ListN.{length}
 use denote.Ref.{now}
-use Rattle.wire.specs.Reply.{Reply}
-use Rattle.slave.specs.Answer.{Result, Count}
-use Rattle.slave.specs.declared.Slave.{Slave}
-use Rattle.text.specs.Line.{lineOf}
-use Rattle.lines.specs.Log.{slaveAfter, linesOf}
-use Rattle.text.specs.Puts.{Fronts}
-use Rattle.lines.specs.Pieces.{mostRecords}
-use Rattle.text.proofs.Putting.{placed-puts, nothing, front-then, retext, refront}
-use Rattle.lines.proofs.Capture.{slave-more, lines-more, handled-bytes, handled-room, handled-number, whole-record, handled-all}
+use Rattle.text.specs.Rooms.{lineRoom}
+use Rattle.lines.specs.Log.{recordLength, slaveAfter, linesOf}
+use Rattle.lines.specs.Pieces.{mostRecords, Handled}
+use Rattle.text.proofs.Putting.{placed-puts, nothing}
+use Rattle.lines.proofs.Capture.{handled-bytes, handled-room, handled-number, handled-more, handled-same}
 use Rattle.lines.proofs.records.Statement.{statement}
 use Rattle.lines.proofs.records.Tie as tie
 
 abbrev Inv-loop : tie.InvT-loop
 Inv-loop number input out₀ whole after₀ next₀ used₀ end₀ done₀ out after next used end done =
-    (after ≡ slaveAfter done after₀ input)
-    × (next ≡ number + done)
-    × (used ≡ 192 * done)
-    × Fronts (linesOf done number after₀ input) out₀ out end
-    × (end ≤ 128 * done)
+    Handled after₀ number input done out₀ out (record { slave = after; number = next; used = used; filled = end })
+    × (end ≤ lineRoom * done)
     × (done ≤ whole)
     × (length out ≡ length out₀)
-    × (192 * whole ≤ length input)
-    × (128 * whole ≤ length out₀)
+    × (recordLength * whole ≤ length input)
+    × (lineRoom * whole ≤ length out₀)
     × (number + whole ≤ mostRecords)
 
 abbrev μ-loop : tie.MeasureT-loop
@@ -47,37 +37,22 @@ loop-holds c =
     let bytes = handled-bytes (length (now (a .input))) (length (now (a .out))) (a .number) in
     let room = handled-room (length (now (a .input))) (length (now (a .out))) (a .number) in
     let most = handled-number (length (now (a .input))) (length (now (a .out))) (a .number) in
-    (refl, omega arith, omega arith, nothing (now (a .out)), omega arith, omega arith, refl, omega arith, omega arith, omega arith)
-
-add-from : tie.Need-add-from Inv-loop μ-loop
-add-from c = search needs
+    (record { slave = refl; next = omega arith; used = omega arith; lines = nothing (now (a .out)) }, omega arith, omega arith, refl, omega arith, omega arith, omega arith)
 
 add-to : tie.Need-add-to Inv-loop μ-loop
 add-to c = search needs
 
-shared-slice-read-number32 : tie.Need-shared-slice-read-number32 Inv-loop μ-loop
-shared-slice-read-number32 c = search needs
+sub-bytes : tie.Need-sub-bytes Inv-loop μ-loop
+sub-bytes c = search needs
 
-add-number32 : tie.Need-add-number32 Inv-loop μ-loop
-add-number32 c = search needs
+part-bytes-start : tie.Need-part-bytes-start Inv-loop μ-loop
+part-bytes-start c = search needs
 
-shared-slice-read-number32-2 : tie.Need-shared-slice-read-number32-2 Inv-loop μ-loop
-shared-slice-read-number32-2 c = search needs
+part-bytes-end : tie.Need-part-bytes-end Inv-loop μ-loop
+part-bytes-end c = search needs
 
-add-number32-2 : tie.Need-add-number32-2 Inv-loop μ-loop
-add-number32-2 c = search needs
-
-shared-slice-read-number32-3 : tie.Need-shared-slice-read-number32-3 Inv-loop μ-loop
-shared-slice-read-number32-3 c = search needs
-
-add-number32-3 : tie.Need-add-number32-3 Inv-loop μ-loop
-add-number32-3 c = search needs
-
-shared-slice-read-number32-4 : tie.Need-shared-slice-read-number32-4 Inv-loop μ-loop
-shared-slice-read-number32-4 c = search needs
-
-number32-requires : tie.Need-number32-requires Inv-loop μ-loop
-number32-requires c κs = search needs
+number32-at-requires : tie.Need-number32-at-requires Inv-loop μ-loop
+number32-at-requires c κs = search needs
 
 sub-packet : tie.Need-sub-packet Inv-loop μ-loop
 sub-packet c = search needs
@@ -105,32 +80,22 @@ loop-less c = search needs
 
 loop-again : tie.Need-loop-again Inv-loop μ-loop
 loop-again c =
-    let a = c .before .before .before .before .before .before .before .before .before .before .before .before .before .before .before .before .before .args in
-    let l = c .before .before .before .before .before .before .before .before .before .before .before .before .before .loop in
-    let i = now (a .input) in
-    let p = c .before .before .before .before .before .packet .ensures in
-    let t = placed-puts (c .before .before .before .put-line .ensures) (omega arith) in
-    let same = whole-record i (a .s) (l .after) (l .done) (l .used) (c .before .before .before .before .before .before .before .number32 .result) (l .inv .0) (l .inv .2) (omega arith) (c .before .before .before .before .before .before .before .number32 .ensures) in
-    let replies = p .1 ∙ ap (λ (r : Result). r .reply) same in (
-      p .0 ∙ ap (λ (r : Result). r .slave) same ∙ sym (slave-more (l .done) (a .s) i) ∙ ap (λ (n : ℕ). slaveAfter n (a .s) i) (sym (add-one (l .done))),
-      omega arith,
-      omega arith,
-      refront (sym (lines-more (l .done) (a .number) (a .s) i) ∙ ap (λ (n : ℕ). linesOf n (a .number) (a .s) i) (sym (add-one (l .done)))) (front-then (l .inv .3) (retext (λ j. lineOf (l .inv .1 j) (replies j)) t)),
+    let l = c .before .before .before .before .before .before .before .before .before .before .loop in
+    let t = placed-puts (c .before .before .before .put-line .ensures) (search needs) (search needs) in (
+      handled-more (l .inv .0) (search needs) (c .before .before .before .before .before .before .before .number32-at .ensures) (c .before .before .before .before .before .packet .ensures) t,
       omega (arith, t .ends, t .short),
-      omega arith,
       search needs,
-      l .inv .7,
-      l .inv .8,
-      l .inv .9,
+      search needs,
+      l .inv .4,
+      l .inv .5,
+      l .inv .6,
     )
 
 same-length : tie.Need-same-length Inv-loop μ-loop
 same-length c = search needs
 
 returns : tie.Need-returns Inv-loop μ-loop
-returns c =
-    let l = c .before .loop in
-    handled-all (omega (arith, c .before .before .handled .ensures)) (record { slave = l .inv .0; next = l .inv .1; used = l .inv .2; lines = l .inv .3 })
+returns c = handled-same (omega (arith, c .before .before .handled .ensures)) (c .before .loop .inv .0)
 
 pub records-spec : {M : Type 1} → statement M
 records-spec =
@@ -140,16 +105,11 @@ records-spec =
     μ-loop
     handled-requires
     loop-holds
-    add-from
     add-to
-    shared-slice-read-number32
-    add-number32
-    shared-slice-read-number32-2
-    add-number32-2
-    shared-slice-read-number32-3
-    add-number32-3
-    shared-slice-read-number32-4
-    number32-requires
+    sub-bytes
+    part-bytes-start
+    part-bytes-end
+    number32-at-requires
     sub-packet
     part-packet-start
     part-packet-end

@@ -1,15 +1,13 @@
 -- `lines::take_piece` meets its contract.
--- Assumes nothing.
 use borrow.Author.Needs.{needs}
-use mathlib.Core.Path.{_≡_, sym, ap, _∙_}
-use Prim.Native.Nat.{ℕ, _-_, _≤_}
+use mathlib.Core.Path.{sym}
+use Prim.Native.Nat.{_≤_}
 use native.Mathlib.Nat.{min-le-right}
 use native.Mathlib.Omega.{arith}
-use lib.ListN.{length, take}
+use lib.ListN.{length}
 use lib.Seq.{length-take-le}
 use denote.Ref.{now}
-use Rattle.lines.specs.Pieces.{carried}
-use Rattle.lines.proofs.Capture.{used-within, take-min, piece-handled}
+use Rattle.lines.proofs.Capture.{used-within, piece-taken}
 use Rattle.lines.proofs.take_piece.Statement.{statement}
 use Rattle.lines.proofs.take_piece.Tie as tie
 
@@ -26,13 +24,10 @@ records-requires : tie.Need-records-requires
 records-requires c κs = search needs
 
 carry-requires : tie.Need-carry-requires
-carry-requires c κs = search needs
-
-sub-t10 : tie.Need-sub-t10
-sub-t10 c =
-    let d = now (c .before .before .before .before .before .before .before .before .before .before .before .before .before .args .input) in
-    let e : c .before .before .before .before .before .before .before .before .before .before .least .result ≤ length d = omega (arith, c .before .before .before .before .before .before .before .before .before .before .least .ensures, min-le-right (c .before .before .before .before .before .before .before .before .before .before .before .before .before .args .n) (length d)) in
-    omega (arith, used-within (c .before .before .before .before .before .before .before .records .ensures), length-take-le (c .before .before .before .before .before .before .before .before .before .before .least .result) d e)
+carry-requires c κs =
+    let d = now (c .before .before .before .before .before .before .before .before .before .before .args .input) in
+    let within : c .before .before .before .before .before .before .before .least .result ≤ length d = omega (arith, c .before .before .before .before .before .before .before .least .ensures, min-le-right (c .before .before .before .before .before .before .before .before .before .before .args .n) (length d)) in
+    (omega (arith, used-within (c .before .before .before .before .records .ensures), length-take-le (c .before .before .before .before .before .before .before .least .result) d within), within)
 
 same-length : tie.Need-same-length
 same-length c = search needs
@@ -41,12 +36,7 @@ same-length-2 : tie.Need-same-length-2
 same-length-2 c = search needs
 
 returns : tie.Need-returns
-returns c =
-    let a = c .before .before .before .before .before .before .before .before .before .before .before .before .before .args in
-    let d = now (a .input) in
-    let e = c .before .before .before .before .before .before .before .before .before .before .least .ensures in
-    let h = piece-handled (a .s) (a .number) (a .n) d (take (c .before .before .before .before .before .before .before .before .before .before .least .result) d) (now (a .out)) _ _ (ap (λ (k : ℕ). take k d) e ∙ take-min (a .n) d) (c .before .before .before .before .before .before .before .records .ensures) in
-    record { slave = h .slave; next = h .next; lines = h .lines; kept = c .before .before .carry .ensures ∙ (λ j. carried d (h .used j) (e j)); held = λ j. e j - h .used j }
+returns c = piece-taken _ (c .before .before .before .before .before .before .before .before .before .before .least .ensures) (c .before .before .before .before .before .before .before .records .ensures) (c .before .before .carry .ensures)
 
 pub take-piece-spec : {M : Type 1} → statement M
 take-piece-spec =
@@ -57,7 +47,6 @@ take-piece-spec =
     slice-aggregate-records
     records-requires
     carry-requires
-    sub-t10
     same-length
     same-length-2
     returns)

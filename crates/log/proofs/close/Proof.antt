@@ -1,5 +1,4 @@
 -- `log::close` meets its contract.
--- Assumes nothing.
 use borrow.Author.Needs.{needs}
 use mathlib.Core.Path.{sym}
 use native.Mathlib.Omega.{arith}

@@ -1,5 +1,4 @@
 -- `log::follow` is safe and ends. The loop's invariant: the bytes held lie within the input buffer. The measure is the number of turns left.
--- Assumes nothing.
 use borrow.Author.Needs.{needs}
 use mathlib.Core.Path.{_≡_, sym}
 use Prim.Native.Nat.{_≤_}

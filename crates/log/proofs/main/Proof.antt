@@ -1,5 +1,4 @@
--- `log::main` is safe and ends.
--- Assumes nothing.
+-- `log::main` meets its contract.
 use borrow.Author.Needs.{needs}
 use mathlib.Core.Path.{sym}
 use native.Mathlib.Omega.{arith}
@@ -24,19 +23,13 @@ begin-requires : tie.Need-begin-requires
 begin-requires c κs = search needs
 
 array-share-prefix-opening : tie.Need-array-share-prefix-opening
-array-share-prefix-opening c = omega (arith, fronts-within (c .before .begin .ensures .2))
+array-share-prefix-opening c = omega (arith, fronts-within (c .before .before .begin .ensures .1))
 
 slice-aggregate-write : tie.Need-slice-aggregate-write
-slice-aggregate-write c = sym (length-take-le _ _ (fronts-within (c .before .before .begin .ensures .2)))
+slice-aggregate-write c = sym (length-take-le _ _ (fronts-within (c .before .before .before .begin .ensures .1)))
 
 write-requires : tie.Need-write-requires
 write-requires c κs = search needs
-
-input-buffer-requires : tie.Need-input-buffer-requires
-input-buffer-requires c κs = search needs
-
-output-buffer-requires : tie.Need-output-buffer-requires
-output-buffer-requires c κs = search needs
 
 enum-told : tie.Need-enum-told
 enum-told c = search needs
@@ -74,8 +67,6 @@ main-spec =
     array-share-prefix-opening
     slice-aggregate-write
     write-requires
-    input-buffer-requires
-    output-buffer-requires
     enum-told
     slice-aggregate-follow
     slice-aggregate-follow-2

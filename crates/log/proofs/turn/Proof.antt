@@ -1,7 +1,7 @@
 -- `log::turn` meets its contract.
--- Assumes nothing.
 use borrow.Author.Needs.{needs}
 use mathlib.Core.Path.{sym}
+use native.Mathlib.Omega.{arith}
 use lib.Seq.{length-take-le}
 use Rattle.text.proofs.Putting.{fronts-within}
 use Rattle.log.proofs.turn.Statement.{statement}
@@ -77,7 +77,7 @@ same-length-4 : tie.Need-same-length-4
 same-length-4 c = search needs
 
 returns-3 : tie.Need-returns-3
-returns-3 c = search needs
+returns-3 c = fronts-within (c .before .before .before .before .before .before .before .take-piece .ensures .rest)
 
 pub turn-spec : {M : Type 1} → statement M
 turn-spec =

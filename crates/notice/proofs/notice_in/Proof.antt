@@ -1,98 +1,44 @@
 -- `notice::notice_in` meets its contract.
--- Assumes nothing.
 use borrow.Author.Needs.{needs}
 use Rattle.notice.proofs.notice_in.Statement.{statement}
 use Rattle.notice.proofs.notice_in.Tie as tie
 
-shared-slice-read-t3 : tie.Need-shared-slice-read-t3
-shared-slice-read-t3 c = search needs
+synchronization-time-stamp-requires : tie.Need-synchronization-time-stamp-requires
+synchronization-time-stamp-requires c κs = search needs
 
-shared-slice-read-number16 : tie.Need-shared-slice-read-number16
-shared-slice-read-number16 c = search needs
+maximum-delay-requires : tie.Need-maximum-delay-requires
+maximum-delay-requires c κs = search needs
 
-shared-slice-read-number16-2 : tie.Need-shared-slice-read-number16-2
-shared-slice-read-number16-2 c = search needs
+continuity-counter-requires : tie.Need-continuity-counter-requires
+continuity-counter-requires c κs = search needs
 
-number16-requires : tie.Need-number16-requires
-number16-requires c κs = search needs
+pointer-requires : tie.Need-pointer-requires
+pointer-requires c κs = search needs
 
-shared-slice-read-t11 : tie.Need-shared-slice-read-t11
-shared-slice-read-t11 c = search needs
+periodic-flag-requires : tie.Need-periodic-flag-requires
+periodic-flag-requires c κs = search needs
 
-shared-slice-read-number16-3 : tie.Need-shared-slice-read-number16-3
-shared-slice-read-number16-3 c = search needs
+future-use-requires : tie.Need-future-use-requires
+future-use-requires c κs = search needs
 
-shared-slice-read-number16-4 : tie.Need-shared-slice-read-number16-4
-shared-slice-read-number16-4 c = search needs
-
-number16-requires-2 : tie.Need-number16-requires-2
-number16-requires-2 c κs = search needs
-
-shared-slice-read-number24 : tie.Need-shared-slice-read-number24
-shared-slice-read-number24 c = search needs
-
-shared-slice-read-number24-2 : tie.Need-shared-slice-read-number24-2
-shared-slice-read-number24-2 c = search needs
-
-shared-slice-read-number24-3 : tie.Need-shared-slice-read-number24-3
-shared-slice-read-number24-3 c = search needs
-
-number24-requires : tie.Need-number24-requires
-number24-requires c κs = search needs
-
-shared-slice-read-number24-4 : tie.Need-shared-slice-read-number24-4
-shared-slice-read-number24-4 c = search needs
-
-shared-slice-read-number24-5 : tie.Need-shared-slice-read-number24-5
-shared-slice-read-number24-5 c = search needs
-
-shared-slice-read-number24-6 : tie.Need-shared-slice-read-number24-6
-shared-slice-read-number24-6 c = search needs
-
-number24-requires-2 : tie.Need-number24-requires-2
-number24-requires-2 c κs = search needs
-
-shared-slice-read-number32 : tie.Need-shared-slice-read-number32
-shared-slice-read-number32 c = search needs
-
-shared-slice-read-number32-2 : tie.Need-shared-slice-read-number32-2
-shared-slice-read-number32-2 c = search needs
-
-shared-slice-read-number32-3 : tie.Need-shared-slice-read-number32-3
-shared-slice-read-number32-3 c = search needs
-
-shared-slice-read-number32-4 : tie.Need-shared-slice-read-number32-4
-shared-slice-read-number32-4 c = search needs
-
-number32-requires : tie.Need-number32-requires
-number32-requires c κs = search needs
+tps-mip-requires : tie.Need-tps-mip-requires
+tps-mip-requires c κs = search needs
 
 returns : tie.Need-returns
-returns c = simp (c .before .before .before .before .before .before .before .before .before .before .before .before .before .before .before .before .before .number16 .ensures, c .before .before .before .before .before .before .before .before .before .before .before .before .before .number162 .ensures, c .before .before .before .before .before .before .before .before .before .number24 .ensures, c .before .before .before .before .before .number242 .ensures, c .number32 .ensures)
+returns c =
+    let f = c .before in
+    let d = f .before .before .before .before in
+    simp (d .before .synchronization-time-stamp .ensures, d .maximum-delay .ensures, f .before .before .before .continuity-counter .ensures, f .before .before .pointer .ensures, f .before .periodic-flag .ensures, f .future-use .ensures, c .tps-mip .ensures)
 
 pub notice-in-spec : {M : Type 1} → statement M
 notice-in-spec =
     tie.close
     (tie.spec
-    shared-slice-read-t3
-    shared-slice-read-number16
-    shared-slice-read-number16-2
-    number16-requires
-    shared-slice-read-t11
-    shared-slice-read-number16-3
-    shared-slice-read-number16-4
-    number16-requires-2
-    shared-slice-read-number24
-    shared-slice-read-number24-2
-    shared-slice-read-number24-3
-    number24-requires
-    shared-slice-read-number24-4
-    shared-slice-read-number24-5
-    shared-slice-read-number24-6
-    number24-requires-2
-    shared-slice-read-number32
-    shared-slice-read-number32-2
-    shared-slice-read-number32-3
-    shared-slice-read-number32-4
-    number32-requires
+    synchronization-time-stamp-requires
+    maximum-delay-requires
+    continuity-counter-requires
+    pointer-requires
+    periodic-flag-requires
+    future-use-requires
+    tps-mip-requires
     returns)

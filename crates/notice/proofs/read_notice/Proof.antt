@@ -1,11 +1,9 @@
 -- `notice::read_notice` meets its contract.
--- Assumes nothing.
 use borrow.Author.Needs.{needs}
-use mathlib.Core.Path.{_≡_, sym, ap, _∙_}
+use mathlib.Core.Path.{sym, ap, _∙_}
 use Rattle.wire.specs.Reply.{refused, given}
 use Rattle.wire.proofs.Tests.{reply-refuses, reply-gives}
 use Rattle.notice.specs.Reader.{readOf}
-use Rattle.notice.proofs.Sound.{accepted-long}
 use Rattle.notice.proofs.read_notice.Statement.{statement}
 use Rattle.notice.proofs.read_notice.Tie as tie
 
@@ -17,7 +15,7 @@ unfolding readOf
 returns c = ap refused (c .before .read-refusal .ensures) ∙ sym (reply-refuses _ _ (λ e. c .if1 .taken (c .before .read-refusal .ensures ∙ e)))
 
 notice-in-requires : tie.Need-notice-in-requires
-notice-in-requires c κs = accepted-long _ (sym (c .before .read-refusal .ensures) ∙ c .if1 .left)
+notice-in-requires c κs = search needs
 
 returns-2 : tie.Need-returns-2
 unfolding readOf

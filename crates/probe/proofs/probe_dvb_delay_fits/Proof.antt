@@ -1,11 +1,9 @@
 -- `probe::probe_dvb_delay_fits` meets its contract.
--- Assumes nothing.
 use borrow.Author.Needs.{needs}
 use mathlib.Core.Path.{ap, _∙_}
-use lib.IntN.{ℤ}
 use mir.Facts.{toZ-ofZ}
-use Rattle.wire.specs.Standards.{dvbSecond, a110Second}
-use Rattle.times.specs.Release.{delayFits, delayFitsA110}
+use Rattle.wire.specs.Standards.{dvbSecond}
+use Rattle.times.specs.Release.{delayFits}
 use Rattle.probe.proofs.probe_dvb_delay_fits.Statement.{statement}
 use Rattle.probe.proofs.probe_dvb_delay_fits.Tie as tie
 

@@ -1,9 +1,8 @@
 -- `probe::probe_label` meets its contract.
--- Assumes nothing.
 use borrow.Author.Needs.{needs}
 use mathlib.Core.Path.{sym, ap, _∙_}
-use Rattle.cadence.specs.Label.{replyOf}
-use Rattle.cadence.specs.declared.Answer.{Answer}
+use Rattle.cadence.specs.Label.{labelReply}
+use Rattle.cadence.specs.declared.LabelAnswer.{LabelAnswer}
 use Rattle.probe.specs.Flat.{flatLabel}
 use Rattle.probe.proofs.probe_label.Statement.{statement}
 use Rattle.probe.proofs.probe_label.Tie as tie
@@ -18,10 +17,10 @@ enum-known-k : tie.Need-enum-known-k
 enum-known-k c = search needs
 
 returns : tie.Need-returns
-returns c = sym (ap (λ (r : Answer). flatLabel (replyOf r)) (c .before .x .given .1)) ∙ ap flatLabel (c .before .before .before .label-of .ensures)
+returns c = sym (ap (λ (r : LabelAnswer). flatLabel (labelReply r)) (c .before .x .given .1)) ∙ ap flatLabel (c .before .before .before .label-of .ensures)
 
 returns-2 : tie.Need-returns-2
-returns-2 c = sym (ap (λ (r : Answer). flatLabel (replyOf r)) (c .before .k .given .1)) ∙ ap flatLabel (c .before .before .before .label-of .ensures)
+returns-2 c = sym (ap (λ (r : LabelAnswer). flatLabel (labelReply r)) (c .before .k .given .1)) ∙ ap flatLabel (c .before .before .before .label-of .ensures)
 
 pub probe-label-spec : {M : Type 1} → statement M
 probe-label-spec =

@@ -1,18 +1,14 @@
 -- `probe::probe_settings` meets its contract.
--- Assumes nothing.
 use borrow.Author.Needs.{needs}
-use mathlib.Core.Path.{sym, ap, _∙_}
-use Rattle.addressing.specs.Entries.{walkedReply}
-use Rattle.addressing.specs.declared.Walked.{Walked}
-use mathlib.Core.Path.{_≡_}
+use mathlib.Core.Path.{_≡_, sym, ap, _∙_}
 use Prim.Native.Nat.{ℕ}
 use lib.IntN.{ℤ}
 use mir.Syntax.{w16, w32}
 use mir.Val.{toZ, ofZ}
 use mir.Facts.{toZ-ofZ}
 use denote.Ref.{now}
-use Rattle.addressing.specs.Entries.{settingsOf}
-use Rattle.addressing.specs.declared.Settings.{Settings}
+use Rattle.addressing.specs.Entries.{settingsOf, walkedReply}
+use Rattle.addressing.specs.declared.Walked.{Walked}
 use Rattle.probe.specs.declared.ProbeSettings.{ProbeSettings}
 use Rattle.probe.specs.Flat.{flatSettings}
 use Rattle.probe.proofs.probe_settings.Statement.{statement}

@@ -1,5 +1,4 @@
 -- `replies::mark_of` meets its contract.
--- Assumes nothing.
 use borrow.Author.Needs.{needs}
 use mathlib.Core.Path.{_≡_, sym, ap, _∙_}
 use Prim.Native.Nat.{ℕ}
@@ -13,10 +12,14 @@ use Rattle.replies.specs.Flat.{flatMark}
 use Rattle.replies.proofs.mark_of.Statement.{statement}
 use Rattle.replies.proofs.mark_of.Tie as tie
 
+-- what is known of the mark
+told : {r : Mark} {m : MarkPart} (n : MarkPart) → r ≡ flatMark (markOf n) → m ≡ n → r ≡ flatMark (markOf m)
+told n e d = e ∙ sym (ap (λ (x : MarkPart). flatMark (markOf x)) d)
+
 -- a wait that is read back from its bits
 same-times : {k r e m : ℕ} {w w′ : ℤ} → w ≡ w′
-    → _≡_ {A = Mark} (record { kind = k; times = record { reference = r; emission = e; modulation = m; wait = w } }) (record { kind = k; times = record { reference = r; emission = e; modulation = m; wait = w′ } })
-same-times {k = k} {r = r} {e = e} {m = m} p = λ i. record { kind = k; times = record { reference = r; emission = e; modulation = m; wait = p i } }
+    → _≡_ {A = Mark} (record { kind = k; number = 0; times = record { reference = r; emission = e; modulation = m; wait = w } }) (record { kind = k; number = 0; times = record { reference = r; emission = e; modulation = m; wait = w′ } })
+same-times {k = k} {r = r} {e = e} {m = m} p = λ i. record { kind = k; number = 0; times = record { reference = r; emission = e; modulation = m; wait = p i } }
 
 enum-told : tie.Need-enum-told
 enum-told c = search needs
@@ -36,6 +39,12 @@ enum-told-3 c = search needs
 no-times-requires-3 : tie.Need-no-times-requires-3
 no-times-requires-3 c κs = search needs
 
+enum-told-4 : tie.Need-enum-told-4
+enum-told-4 c = search needs
+
+no-times-requires-4 : tie.Need-no-times-requires-4
+no-times-requires-4 c κs = search needs
+
 enum-known-m : tie.Need-enum-known-m
 enum-known-m c = search needs
 
@@ -43,25 +52,28 @@ enum-known-m-2 : tie.Need-enum-known-m-2
 enum-known-m-2 c = search needs
 
 returns : tie.Need-returns
-returns c = c .no-times .ensures ∙ sym (ap (λ (r : MarkPart). flatMark (markOf r)) (c .before .enum-told .given .1))
+returns c = told _ (c .no-times .ensures) (c .before .enum-told .given .1)
 
 returns-2 : tie.Need-returns-2
-returns-2 c = c .no-times2 .ensures ∙ sym (ap (λ (r : MarkPart). flatMark (markOf r)) (c .before .enum-told2 .given .1))
+returns-2 c = told _ (c .no-times2 .ensures) (c .before .enum-told2 .given .1)
 
 returns-3 : tie.Need-returns-3
-returns-3 c = c .no-times3 .ensures ∙ sym (ap (λ (r : MarkPart). flatMark (markOf r)) (c .before .enum-told3 .given .1))
+returns-3 c = told _ (c .no-times3 .ensures) (c .before .enum-told3 .given .1)
 
 returns-4 : tie.Need-returns-4
-returns-4 c =
-    let t = c .before .before .before .before .before .m .given in
-    let w : toZ w64 (ofZ w64 (t .0 .0 .wait)) ≡ t .0 .0 .wait = search needs in
-    same-times w ∙ sym (ap (λ (r : MarkPart). flatMark (markOf r)) (t .1))
+returns-4 c = told _ (c .no-times4 .ensures) (c .before .enum-told4 .given .1)
 
 returns-5 : tie.Need-returns-5
 returns-5 c =
+    let t = c .before .before .before .before .before .m .given in
+    let w : toZ w64 (ofZ w64 (t .0 .0 .wait)) ≡ t .0 .0 .wait = search needs in
+    told _ (same-times w) (t .1)
+
+returns-6 : tie.Need-returns-6
+returns-6 c =
     let t = c .before .before .before .before .before .m2 .given in
     let w : toZ w64 (ofZ w64 (t .0 .0 .wait)) ≡ t .0 .0 .wait = search needs in
-    same-times w ∙ sym (ap (λ (r : MarkPart). flatMark (markOf r)) (t .1))
+    told _ (same-times w) (t .1)
 
 pub mark-of-spec : {M : Type 1} → statement M
 mark-of-spec =
@@ -73,10 +85,13 @@ mark-of-spec =
     no-times-requires-2
     enum-told-3
     no-times-requires-3
+    enum-told-4
+    no-times-requires-4
     enum-known-m
     enum-known-m-2
     returns
     returns-2
     returns-3
     returns-4
-    returns-5)
+    returns-5
+    returns-6)

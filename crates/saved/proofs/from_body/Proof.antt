@@ -1,27 +1,25 @@
 -- `saved::from_body` meets its contract.
--- Assumes nothing.
 use borrow.Author.Needs.{needs}
-use mathlib.Core.Path.{ap, _∙_}
-use native.Mathlib.Omega.{arith}
+use mathlib.Core.Path.{ap, ap₂, _∙_}
 use Prim.Native.Nat.{ℕ, _-_}
-use lib.ListN.{length, drop}
+use lib.ListN.{drop}
 use denote.Ref.{now}
 use Rattle.saved.specs.Block.{fromBody}
-use Rattle.saved.proofs.Shape.{rest, shape-room}
+use Rattle.saved.proofs.Shape.{rest}
 use Rattle.saved.proofs.from_body.Statement.{statement}
 use Rattle.saved.proofs.from_body.Tie as tie
 
-sub-start : tie.Need-sub-start
-sub-start c = omega (arith, shape-room _ (c .before .pre))
+less-requires : tie.Need-less-requires
+less-requires c κs = search needs
 
 distance-of-requires : tie.Need-distance-of-requires
-distance-of-requires c κs = omega (arith, shape-room _ (c .before .pre))
+distance-of-requires c κs = search needs
 
-cast-start : tie.Need-cast-start
-cast-start c = search needs
+cast-less : tie.Need-cast-less
+cast-less c = search needs
 
-sub-start-2 : tie.Need-sub-start-2
-sub-start-2 c = omega (arith, shape-room _ (c .before .before .pre), c .distance-of .ensures)
+less-requires-2 : tie.Need-less-requires-2
+less-requires-2 c κs = search needs
 
 sub-result : tie.Need-sub-result
 sub-result c = search needs
@@ -34,16 +32,16 @@ part-result-end c = search needs
 
 returns : tie.Need-returns
 unfolding fromBody
-returns c = rest _ (now (c .before .before .before .args .b)) ∙ ap (λ (d : ℕ). drop (length (now (c .before .before .before .args .b)) - 8 - d) (now (c .before .before .before .args .b))) (c .before .distance-of .ensures)
+returns c = let b = now (c .before .before .before .before .before .args .b) in rest (c .before .less2 .result) b ∙ ap (λ (k : ℕ). drop k b) (c .before .less2 .ensures ∙ ap₂ _-_ (c .before .before .before .less .ensures) (c .before .before .distance-of .ensures))
 
 pub from-body-spec : {M : Type 1} → statement M
 from-body-spec =
     tie.close
     (tie.spec
-    sub-start
+    less-requires
     distance-of-requires
-    cast-start
-    sub-start-2
+    cast-less
+    less-requires-2
     sub-result
     part-result-start
     part-result-end

@@ -1,77 +1,71 @@
 -- `slave::arrived` meets its contract.
--- Assumes nothing.
 use borrow.Author.Needs.{needs}
-use mathlib.Core.Path.{_≡_, sym, ap, ap₂, subst, _∙_}
-use lib.IntN.{ℤ}
-use mir.Facts.{toZ-ofZ}
+use mathlib.Core.Path.{_≡_, refl, sym, ap, _∙_}
 use denote.Ref.{now}
-use Rattle.addressing.specs.declared.Settings.{Settings}
-use Rattle.slave.specs.Answer.{Result}
-use Rattle.judging.specs.Judge.{judgePacket}
-use Rattle.judging.specs.Pointed.{Pointed}
-use Rattle.slave.specs.Step.{stepOf}
-use Rattle.slave.specs.Calls.{boardOf, inForce}
-use Rattle.judging.specs.declared.Board.{Board}
+use Rattle.judging.specs.Judge.{judgeArrived}
 use Rattle.judging.specs.Judgement.{Judgement, judgementOf}
-use Rattle.slave.proofs.Parts.{next-below}
-use Rattle.judging.proofs.Pointing.{packet-pointed}
-use Rattle.slave.proofs.Calling.{packet-steps, packet-refused}
+use Rattle.judging.proofs.Judging.{arrived-limits}
+use Rattle.slave.specs.Step.{stepOf}
 use Rattle.slave.proofs.arrived.Statement.{statement}
 use Rattle.slave.proofs.arrived.Tie as tie
 
-judged : (c : tie.After-judge-packet) → let a = c .before .before .before .before .before .before .args in
-    judgementOf (c .judge-packet .result) ≡ judgePacket (boardOf (a .s)) (inForce (a .s)) (now (a .p)) (a .tick)
-judged c =
-    let a = c .before .before .before .before .before .before .args in
-    c .judge-packet .ensures
-    ∙ ap₂ (λ (b : Board) (t : Settings). judgePacket b t (now (a .p)) (a .tick)) (c .before .before .board-of .ensures) (c .before .in-force .ensures)
+-- the step on what was judged
+stepped : (c : tie.After-judge-arrived) → let a = c .before .before .before .before .args in
+    (j : Judgement) → judgementOf (c .judge-arrived .result) ≡ j → stepOf (a .s) j (a .tick) ≡ stepOf (a .s) (judgeArrived (a .s .board) (a .s .settings) (now (a .p))) (a .tick)
+stepped c j e = let a = c .before .before .before .before .args in ap (λ (i : Judgement). stepOf (a .s) i (a .tick)) (sym e ∙ c .judge-arrived .ensures)
 
-is-sound-requires : tie.Need-is-sound-requires
-is-sound-requires c κs = search needs
+judge-arrived-requires : tie.Need-judge-arrived-requires
+judge-arrived-requires c κs = search needs
 
-board-of-requires : tie.Need-board-of-requires
-board-of-requires c κs = search needs
+enum-known-k : tie.Need-enum-known-k
+enum-known-k c = search needs
 
-in-force-requires : tie.Need-in-force-requires
-in-force-requires c κs = search needs
+on-mark-requires : tie.Need-on-mark-requires
+on-mark-requires c κs = search needs
 
-judge-packet-requires : tie.Need-judge-packet-requires
-judge-packet-requires c κs = search needs
+mark-at-requires : tie.Need-mark-at-requires
+mark-at-requires c κs = search needs
 
-step-requires : tie.Need-step-requires
-step-requires c κs =
-    let a = c .before .before .before .before .before .before .args in
-    let k = sym (c .before .before .before .before .is-sound .ensures) ∙ c .before .before .before .if1 .taken in
-    (next-below (a .s) k, subst (Pointed (a .s .n)) (sym (judged c)) (packet-pointed (boardOf (a .s)) (inForce (a .s)) (now (a .p)) (a .tick)))
+pass-mark-requires : tie.Need-pass-mark-requires
+pass-mark-requires c κs = (c .before .before .before .before .before .before .before .before .before .before .before .pre .is-sound, sym (c .before .before .on-mark .ensures) ∙ c .before .if1 .taken)
 
 returns : tie.Need-returns
-returns c =
-    let a = c .before .before .before .before .before .before .before .args in
-    let k = sym (c .before .before .before .before .before .is-sound .ensures) ∙ c .before .before .before .before .if1 .taken in
-    let q = packet-steps (a .s) (now (a .p)) (a .tick) k in
-    let j = judged (c .before) in (
-      c .step .ensures .0 ∙ ap (λ (j : Judgement). stepOf (a .s) j (a .tick) .slave) j ∙ sym (ap (λ (r : Result). r .slave) q),
-      c .step .ensures .1 ∙ ap (λ (j : Judgement). stepOf (a .s) j (a .tick) .reply) j ∙ sym (ap (λ (r : Result). r .reply) q),
-    )
+unfolding stepOf
+returns c = c .pass-mark .ensures (c .before .before .before .before .before .before .before .before .before .before .before .before .args .tick) (c .before .mark-at .ensures) ∙ stepped (c .before .before .before .before .before .before .before .before) _ (ap judgementOf (c .before .before .before .before .before .before .k .given .1))
 
-cold-slave-requires : tie.Need-cold-slave-requires
-cold-slave-requires c κs = search needs
+pass-on-requires : tie.Need-pass-on-requires
+pass-on-requires c κs = (c .before .before .before .before .before .before .before .before .before .before .pre .is-sound, sym (c .before .on-mark .ensures) ∙ c .if1 .left)
 
 returns-2 : tie.Need-returns-2
-returns-2 c =
-    let a = c .before .before .before .before .args in
-    let q = packet-refused (a .s) (now (a .p)) (a .tick) (sym (c .before .before .is-sound .ensures) ∙ c .before .if1 .left) in
-    (c .cold-slave .ensures ∙ sym (ap (λ (r : Result). r .slave) q), sym (ap (λ (r : Result). r .reply) q))
+unfolding stepOf
+returns-2 c = c .pass-on .ensures (c .before .before .before .before .before .before .before .before .before .before .before .args .tick) ∙ stepped (c .before .before .before .before .before .before .before) _ (ap judgementOf (c .before .before .before .before .before .k .given .1))
+
+enum-known-t : tie.Need-enum-known-t
+enum-known-t c = search needs
+
+mark-at-requires-2 : tie.Need-mark-at-requires-2
+mark-at-requires-2 c κs = search needs
+
+take-requires : tie.Need-take-requires
+take-requires c κs = arrived-limits _ _ _ _ (sym (c .before .before .before .before .judge-arrived .ensures) ∙ ap judgementOf (c .before .before .t .given .1)) .pointer
+
+returns-3 : tie.Need-returns-3
+unfolding stepOf
+returns-3 c = c .take .ensures (c .before .before .before .before .before .before .before .before .before .args .tick) (c .before .mark-at2 .ensures) ∙ stepped (c .before .before .before .before .before) _ (ap judgementOf (c .before .before .before .t .given .1))
 
 pub arrived-spec : {M : Type 1} → statement M
 arrived-spec =
     tie.close
     (tie.spec
-    is-sound-requires
-    board-of-requires
-    in-force-requires
-    judge-packet-requires
-    step-requires
+    judge-arrived-requires
+    enum-known-k
+    on-mark-requires
+    mark-at-requires
+    pass-mark-requires
     returns
-    cold-slave-requires
-    returns-2)
+    pass-on-requires
+    returns-2
+    enum-known-t
+    mark-at-requires-2
+    take-requires
+    returns-3)

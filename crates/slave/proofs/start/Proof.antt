@@ -1,5 +1,4 @@
 -- `slave::start` meets its contract.
--- Assumes nothing.
 use borrow.Author.Needs.{needs}
 use mathlib.Core.Path.{_≡_, refl, sym, ap, _∙_}
 use Rattle.slave.specs.Calls.{startOf}
@@ -14,14 +13,14 @@ hunting-slave-requires c κs = search needs
 
 returns : tie.Need-returns
 unfolding startOf
-returns c = let e = sym (c .before .before .settings-kept .ensures) ∙ c .before .if1 .taken in (rw e (c .hunting-slave .ensures), rw e)
+returns c = rw (sym (c .before .before .settings-kept .ensures) ∙ c .before .if1 .taken, c .hunting-slave .ensures)
 
 cold-slave-requires : tie.Need-cold-slave-requires
 cold-slave-requires c κs = search needs
 
 returns-2 : tie.Need-returns-2
 unfolding startOf
-returns-2 c = let e = sym (c .before .before .settings-kept .ensures) ∙ c .before .if1 .left in (rw e (c .cold-slave .ensures), rw e)
+returns-2 c = rw (sym (c .before .before .settings-kept .ensures) ∙ c .before .if1 .left, c .cold-slave .ensures)
 
 pub start-spec : {M : Type 1} → statement M
 start-spec =

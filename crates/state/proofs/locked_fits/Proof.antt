@@ -43,7 +43,7 @@ waiting-fits-requires c κs = search needs
 
 returns-4 : tie.Need-returns-4
 unfolding lockedFits
-returns-4 c = 
+returns-4 c =
     let a = c .before .before .before .before .before .before .before .before .before .before .args in
     let od : toZ w16 (ofZ w16 (a .t .od)) ≡ a .t .od = search (needs, c .before .struct-told2 .given) in
     rw (frequency-kept (c .before .before .before .before .before .before .before), lt-ltb _ _ (c .before .before .before .before .if2 .left), sym (c .before .before .before .index-fits .ensures) ∙ not-false _ (c .before .before .if3 .left))

@@ -1,11 +1,10 @@
 -- `text::places` meets its contract. The loop's invariant: the digits counted and those of `rest` are all, but one is counted twice.
--- Assumes nothing.
 use mathlib.Core.Path.{_≡_}
 use Prim.Native.Nat.{_+_}
 use native.Mathlib.Omega.{arith}
 use lib.ListN.{length}
 use Rattle.text.specs.Decimal.{decimal}
-use Rattle.text.proofs.Decimals.{length-one, length-more, not-empty, at-most-20}
+use Rattle.text.proofs.Decimals.{length-one, length-more, not-empty, at-most-digits}
 use Rattle.text.proofs.places.Statement.{statement}
 use Rattle.text.proofs.places.Tie as tie
 
@@ -19,7 +18,7 @@ loop-holds : tie.Need-loop-holds Inv-loop μ-loop
 loop-holds c = omega arith
 
 add-k : tie.Need-add-k Inv-loop μ-loop
-add-k c = omega (arith, at-most-20 (c .before .before .args .n) (omega arith), not-empty (c .before .loop .rest))
+add-k c = omega (arith, at-most-digits (c .before .before .args .n) (omega arith), not-empty (c .before .loop .rest))
 
 loop-less : tie.Need-loop-less Inv-loop μ-loop
 loop-less c = omega arith

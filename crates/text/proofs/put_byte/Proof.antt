@@ -1,5 +1,4 @@
 -- `text::put_byte` meets its contract.
--- Assumes nothing.
 use borrow.Author.Needs.{needs}
 use denote.Ref.{now}
 use Rattle.text.proofs.Putting.{one-byte}

@@ -1,12 +1,11 @@
 -- `text::put_decimal` meets its contract. The loop's invariant is `Filling`: the digits behind byte i stand there.
--- Assumes nothing.
 use borrow.Author.Needs.{needs}
 use Prim.Native.Nat.{ℕ, _+_, _≤_}
 use native.Mathlib.Omega.{arith}
 use lib.ListN.{length, length-set}
 use denote.Ref.{now}
-use Rattle.text.specs.Decimal.{decimal}
-use Rattle.text.proofs.Decimals.{at-most-20, not-empty, length-one}
+use Rattle.text.specs.Decimal.{decimal, mostDigits}
+use Rattle.text.proofs.Decimals.{at-most-digits, not-empty, length-one}
 use Rattle.text.proofs.Filling.{Filling, none-yet, one-more, first-digit}
 use mathlib.Core.Path.{_≡_, refl, sym, ap, subst}
 use Rattle.text.specs.Puts.{Puts}
@@ -23,7 +22,7 @@ places-requires : tie.Need-places-requires Inv-loop μ-loop
 places-requires c κs = search needs
 
 add-end : tie.Need-add-end Inv-loop μ-loop
-add-end c = omega (arith, c .places .ensures, at-most-20 (c .before .before .args .n) (omega arith))
+add-end c = omega (arith, c .places .ensures, at-most-digits (c .before .before .args .n) (omega arith))
 
 loop-holds : tie.Need-loop-holds Inv-loop μ-loop
 loop-holds c =
@@ -40,7 +39,7 @@ add-out : tie.Need-add-out Inv-loop μ-loop
 add-out c = search needs
 
 slice-write-out : tie.Need-slice-write-out Inv-loop μ-loop
-slice-write-out c = omega (arith, not-empty (c .before .loop .rest), c .before .loop .inv .0 .place, at-most-20 (c .before .before .before .before .args .n) (omega arith))
+slice-write-out c = omega (arith, not-empty (c .before .loop .rest), c .before .loop .inv .0 .place, at-most-digits (c .before .before .before .before .args .n) (omega arith))
 
 loop-less : tie.Need-loop-less Inv-loop μ-loop
 loop-less c = search needs
@@ -49,7 +48,7 @@ loop-again : tie.Need-loop-again Inv-loop μ-loop
 loop-again c =
     let a = c .before .before .before .before .args in
     let l = c .before .loop in
-    (one-more (now (a .out)) (a .at) (a .n) (l .out) (l .i) (l .rest) (l .inv .0) (omega (arith, at-most-20 (a .n) (omega arith))) (omega arith), omega arith, l .inv .2, simp length-set (l .inv .3))
+    (one-more (now (a .out)) (a .at) (a .n) (l .out) (l .i) (l .rest) (l .inv .0) (omega (arith, at-most-digits (a .n) (omega arith))) (omega arith), omega arith, l .inv .2, simp length-set (l .inv .3))
 
 cast-out-2 : tie.Need-cast-out-2 Inv-loop μ-loop
 cast-out-2 c = search needs
@@ -58,7 +57,7 @@ add-out-2 : tie.Need-add-out-2 Inv-loop μ-loop
 add-out-2 c = search needs
 
 slice-write-out-2 : tie.Need-slice-write-out-2 Inv-loop μ-loop
-slice-write-out-2 c = omega (arith, at-most-20 (c .before .before .before .before .args .n) (omega arith))
+slice-write-out-2 c = omega (arith, at-most-digits (c .before .before .before .before .args .n) (omega arith))
 
 same-length : tie.Need-same-length Inv-loop μ-loop
 same-length c = search needs
@@ -67,8 +66,8 @@ returns : tie.Need-returns Inv-loop μ-loop
 returns c =
     let a = c .before .before .before .before .args in
     let l = c .before .loop in
-    let short : length (decimal (a .n)) ≤ 20 = at-most-20 (a .n) (omega arith) in
-    subst (Puts 20 (now (a .out)) (a .at) (decimal (a .n)) _) (sym (l .inv .2))
+    let short : length (decimal (a .n)) ≤ mostDigits = at-most-digits (a .n) (omega arith) in
+    subst (Puts mostDigits (now (a .out)) (a .at) (decimal (a .n)) _) (sym (l .inv .2))
     (first-digit (now (a .out)) (a .at) (a .n) (l .out) (l .i) (l .rest) (l .inv .0) (omega arith) (omega arith) short)
 
 pub put-decimal-spec : {M : Type 1} → statement M

@@ -1,12 +1,7 @@
 -- `text::put_label` meets its contract.
--- Assumes nothing.
 use borrow.Author.Needs.{needs}
-use mathlib.Core.Path.{sym, ap}
 use native.Mathlib.Omega.{arith}
-use Rattle.slave.specs.Answer.{optionOf}
-use Rattle.slave.specs.declared.Maybe.{Maybe}
-use Rattle.text.specs.Line.{labelText}
-use Rattle.text.proofs.Putting.{wider, retext}
+use Rattle.text.proofs.Putting.{wider}
 use Rattle.text.proofs.put_label.Statement.{statement}
 use Rattle.text.proofs.put_label.Tie as tie
 
@@ -29,13 +24,13 @@ same-length : tie.Need-same-length
 same-length c = search needs
 
 returns : tie.Need-returns
-returns c = retext (sym (ap (λ (m : Maybe). labelText (optionOf m)) (c .before .before .before .before .enum-told .given .1))) (wider (omega arith) (c .before .before .put-byte .ensures))
+returns c = rw (c .before .before .before .before .enum-told .given .1) (wider (omega arith) (c .before .before .put-byte .ensures))
 
 same-length-2 : tie.Need-same-length-2
 same-length-2 c = search needs
 
 returns-2 : tie.Need-returns-2
-returns-2 c = retext (sym (ap (λ (m : Maybe). labelText (optionOf m)) (c .before .before .before .before .before .label .given .1))) (c .before .before .put-decimal .ensures)
+returns-2 c = rw (c .before .before .before .before .before .label .given .1) (c .before .before .put-decimal .ensures)
 
 pub put-label-spec : {M : Type 1} → statement M
 put-label-spec =

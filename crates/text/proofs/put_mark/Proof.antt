@@ -1,12 +1,7 @@
 -- `text::put_mark` meets its contract.
--- Assumes nothing.
 use borrow.Author.Needs.{needs}
-use mathlib.Core.Path.{sym, ap}
 use native.Mathlib.Omega.{arith}
-use Rattle.slave.specs.Answer.{markOf}
-use Rattle.slave.specs.declared.MarkPart.{MarkPart}
-use Rattle.text.specs.Line.{markText}
-use Rattle.text.proofs.Putting.{wider, retext}
+use Rattle.text.proofs.Putting.{wider}
 use Rattle.text.proofs.put_mark.Statement.{statement}
 use Rattle.text.proofs.put_mark.Tie as tie
 
@@ -43,6 +38,15 @@ cast-put-decimal c = search needs
 put-decimal-requires : tie.Need-put-decimal-requires
 put-decimal-requires c κs = search needs
 
+enum-told-4 : tie.Need-enum-told-4
+enum-told-4 c = search needs
+
+slice-aggregate-put-word-3 : tie.Need-slice-aggregate-put-word-3
+slice-aggregate-put-word-3 c = search needs
+
+put-word-requires-3 : tie.Need-put-word-requires-3
+put-word-requires-3 c κs = search needs
+
 enum-known-mark-2 : tie.Need-enum-known-mark-2
 enum-known-mark-2 c = search needs
 
@@ -56,31 +60,37 @@ same-length : tie.Need-same-length
 same-length c = search needs
 
 returns : tie.Need-returns
-returns c = retext (sym (ap (λ (m : MarkPart). markText (markOf m)) (c .before .before .before .before .enum-told .given .1))) (wider (omega arith) (c .before .before .put-byte .ensures))
+returns c = rw (c .before .before .before .before .enum-told .given .1) (wider (omega arith) (c .before .before .put-byte .ensures))
 
 same-length-2 : tie.Need-same-length-2
 same-length-2 c = search needs
 
 returns-2 : tie.Need-returns-2
-returns-2 c = retext (sym (ap (λ (m : MarkPart). markText (markOf m)) (c .before .before .before .before .before .enum-told2 .given .1))) (c .before .before .put-word .ensures)
+returns-2 c = rw (c .before .before .before .before .before .enum-told2 .given .1) (wider (omega arith) (c .before .before .put-word .ensures))
 
 same-length-3 : tie.Need-same-length-3
 same-length-3 c = search needs
 
 returns-3 : tie.Need-returns-3
-returns-3 c = retext (sym (ap (λ (m : MarkPart). markText (markOf m)) (c .before .before .before .before .before .enum-told3 .given .1))) (c .before .before .put-word2 .ensures)
+returns-3 c = rw (c .before .before .before .before .before .enum-told3 .given .1) (wider (omega arith) (c .before .before .put-word2 .ensures))
 
 same-length-4 : tie.Need-same-length-4
 same-length-4 c = search needs
 
 returns-4 : tie.Need-returns-4
-returns-4 c = retext (sym (ap (λ (m : MarkPart). markText (markOf m)) (c .before .before .before .before .before .before .before .mark .given .1))) (c .before .before .put-decimal .ensures)
+returns-4 c = rw (c .before .before .before .before .before .before .before .mark .given .1) (wider (omega arith) (c .before .before .put-decimal .ensures))
 
 same-length-5 : tie.Need-same-length-5
 same-length-5 c = search needs
 
 returns-5 : tie.Need-returns-5
-returns-5 c = retext (sym (ap (λ (m : MarkPart). markText (markOf m)) (c .before .before .before .before .before .before .before .mark2 .given .1))) (c .before .before .put-decimal2 .ensures)
+returns-5 c = rw (c .before .before .before .before .before .enum-told4 .given .1) (wider (omega arith) (c .before .before .put-word3 .ensures))
+
+same-length-6 : tie.Need-same-length-6
+same-length-6 c = search needs
+
+returns-6 : tie.Need-returns-6
+returns-6 c = rw (c .before .before .before .before .before .before .before .mark2 .given .1) (wider (omega arith) (c .before .before .put-decimal2 .ensures))
 
 pub put-mark-spec : {M : Type 1} → statement M
 put-mark-spec =
@@ -97,6 +107,9 @@ put-mark-spec =
     enum-known-mark
     cast-put-decimal
     put-decimal-requires
+    enum-told-4
+    slice-aggregate-put-word-3
+    put-word-requires-3
     enum-known-mark-2
     cast-put-decimal-2
     put-decimal-requires-2
@@ -109,4 +122,6 @@ put-mark-spec =
     same-length-4
     returns-4
     same-length-5
-    returns-5)
+    returns-5
+    same-length-6
+    returns-6)

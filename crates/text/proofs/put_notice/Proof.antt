@@ -1,12 +1,7 @@
 -- `text::put_notice` meets its contract.
--- Assumes nothing.
 use borrow.Author.Needs.{needs}
-use mathlib.Core.Path.{sym, ap}
 use native.Mathlib.Omega.{arith}
-use Rattle.slave.specs.Answer.{noticeOf}
-use Rattle.slave.specs.declared.NoticePart.{NoticePart}
-use Rattle.text.specs.Line.{noticeText}
-use Rattle.text.proofs.Putting.{wider, retext}
+use Rattle.text.proofs.Putting.{wider}
 use Rattle.text.proofs.put_notice.Statement.{statement}
 use Rattle.text.proofs.put_notice.Tie as tie
 
@@ -47,25 +42,25 @@ same-length : tie.Need-same-length
 same-length c = search needs
 
 returns : tie.Need-returns
-returns c = retext (sym (ap (λ (m : NoticePart). noticeText (noticeOf m)) (c .before .before .before .before .enum-told .given .1))) (wider (omega arith) (c .before .before .put-byte .ensures))
+returns c = rw (c .before .before .before .before .enum-told .given .1) (wider (omega arith) (c .before .before .put-byte .ensures))
 
 same-length-2 : tie.Need-same-length-2
 same-length-2 c = search needs
 
 returns-2 : tie.Need-returns-2
-returns-2 c = retext (sym (ap (λ (m : NoticePart). noticeText (noticeOf m)) (c .before .before .before .before .before .enum-told2 .given .1))) (c .before .before .put-word .ensures)
+returns-2 c = rw (c .before .before .before .before .before .enum-told2 .given .1) (wider (omega arith) (c .before .before .put-word .ensures))
 
 same-length-3 : tie.Need-same-length-3
 same-length-3 c = search needs
 
 returns-3 : tie.Need-returns-3
-returns-3 c = retext (sym (ap (λ (m : NoticePart). noticeText (noticeOf m)) (c .before .before .before .before .before .enum-told3 .given .1))) (c .before .before .put-word2 .ensures)
+returns-3 c = rw (c .before .before .before .before .before .enum-told3 .given .1) (wider (omega arith) (c .before .before .put-word2 .ensures))
 
 same-length-4 : tie.Need-same-length-4
 same-length-4 c = search needs
 
 returns-4 : tie.Need-returns-4
-returns-4 c = retext (sym (ap (λ (m : NoticePart). noticeText (noticeOf m)) (c .before .before .before .before .before .notice .given .1))) (c .before .before .put-decimal .ensures)
+returns-4 c = rw (c .before .before .before .before .before .notice .given .1) (c .before .before .put-decimal .ensures)
 
 pub put-notice-spec : {M : Type 1} → statement M
 put-notice-spec =

@@ -1,26 +1,34 @@
 -- `text::put_refusal` meets its contract.
--- Assumes nothing.
 use borrow.Author.Needs.{needs}
-use borrow.Author.Tests.{leb-true}
-use mathlib.Core.Path.{sym, _∙_}
 use Rattle.text.proofs.Putting.{puts-placed, none-placed}
 use Rattle.text.proofs.put_refusal.Statement.{statement}
 use Rattle.text.proofs.put_refusal.Tie as tie
 
-has-room-requires : tie.Need-has-room-requires
-has-room-requires c κs = search needs
+room-from-requires : tie.Need-room-from-requires
+room-from-requires c κs = search needs
 
-fill-refusal-requires : tie.Need-fill-refusal-requires
-fill-refusal-requires c κs = leb-true _ _ (sym (c .before .before .has-room .ensures) ∙ c .before .if1 .taken)
+returns : tie.Need-returns
+returns c = none-placed (search needs)
+
+slice-aggregate-put-numbered : tie.Need-slice-aggregate-put-numbered
+slice-aggregate-put-numbered c = search needs
+
+put-numbered-requires : tie.Need-put-numbered-requires
+put-numbered-requires c κs = search needs
 
 same-length : tie.Need-same-length
 same-length c = search needs
 
-returns : tie.Need-returns
-returns c = puts-placed (sym (c .before .before .before .before .before .has-room .ensures) ∙ c .before .before .before .before .if1 .taken) (c .before .before .fill-refusal .ensures)
-
 returns-2 : tie.Need-returns-2
-returns-2 c = none-placed (sym (c .before .has-room .ensures) ∙ c .if1 .left)
+returns-2 c = puts-placed (search needs) (c .before .before .put-numbered .ensures)
 
 pub put-refusal-spec : {M : Type 1} → statement M
-put-refusal-spec = tie.close (tie.spec has-room-requires fill-refusal-requires same-length returns returns-2)
+put-refusal-spec =
+    tie.close
+    (tie.spec
+    room-from-requires
+    returns
+    slice-aggregate-put-numbered
+    put-numbered-requires
+    same-length
+    returns-2)

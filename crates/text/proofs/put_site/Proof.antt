@@ -1,26 +1,48 @@
 -- `text::put_site` meets its contract.
--- Assumes nothing.
 use borrow.Author.Needs.{needs}
-use borrow.Author.Tests.{leb-true}
-use mathlib.Core.Path.{sym, _∙_}
-use Rattle.text.proofs.Putting.{puts-placed, none-placed}
+use Rattle.text.proofs.Putting.{then, puts-placed, none-placed}
+use Rattle.text.specs.Line.{siteLine}
 use Rattle.text.proofs.put_site.Statement.{statement}
 use Rattle.text.proofs.put_site.Tie as tie
 
-has-room-requires : tie.Need-has-room-requires
-has-room-requires c κs = search needs
+room-from-requires : tie.Need-room-from-requires
+room-from-requires c κs = search needs
 
-fill-site-requires : tie.Need-fill-site-requires
-fill-site-requires c κs = leb-true _ _ (sym (c .before .before .has-room .ensures) ∙ c .before .if1 .taken)
+returns : tie.Need-returns
+returns c = none-placed (search needs)
+
+slice-aggregate-put-word : tie.Need-slice-aggregate-put-word
+slice-aggregate-put-word c = search needs
+
+put-word-requires : tie.Need-put-word-requires
+put-word-requires c κs = search needs
+
+put-decimal-requires : tie.Need-put-decimal-requires
+put-decimal-requires c κs = search needs
+
+slice-aggregate-put-numbered : tie.Need-slice-aggregate-put-numbered
+slice-aggregate-put-numbered c = search needs
+
+put-numbered-requires : tie.Need-put-numbered-requires
+put-numbered-requires c κs = search needs
 
 same-length : tie.Need-same-length
 same-length c = search needs
 
-returns : tie.Need-returns
-returns c = puts-placed (sym (c .before .before .before .before .before .has-room .ensures) ∙ c .before .before .before .before .if1 .taken) (c .before .before .fill-site .ensures)
-
 returns-2 : tie.Need-returns-2
-returns-2 c = none-placed (sym (c .before .has-room .ensures) ∙ c .if1 .left)
+unfolding siteLine
+returns-2 c = puts-placed (search needs) (then (then (c .before .before .before .before .before .before .before .before .before .before .before .put-word .ensures) (c .before .before .before .before .before .before .before .put-decimal .ensures)) (c .before .before .put-numbered .ensures))
 
 pub put-site-spec : {M : Type 1} → statement M
-put-site-spec = tie.close (tie.spec has-room-requires fill-site-requires same-length returns returns-2)
+put-site-spec =
+    tie.close
+    (tie.spec
+    room-from-requires
+    returns
+    slice-aggregate-put-word
+    put-word-requires
+    put-decimal-requires
+    slice-aggregate-put-numbered
+    put-numbered-requires
+    same-length
+    returns-2)

@@ -1,5 +1,4 @@
 -- `text::put_word` meets its contract.
--- Assumes nothing.
 use borrow.Author.Needs.{needs}
 use denote.Ref.{now}
 use Rattle.text.proofs.Putting.{word-put}
@@ -18,7 +17,7 @@ same-length c = search needs
 returns : tie.Need-returns
 returns c =
     let a = c .before .before .before .before .before .before .args in
-    word-put 20 (now (a .out)) (a .at) (now (a .word)) _ (c .before .before .put .ensures) (search needs) (search needs)
+    word-put (now (a .out)) (a .at) (now (a .word)) _ (c .before .before .put .ensures) (search needs)
 
 pub put-word-spec : {M : Type 1} → statement M
 put-word-spec = tie.close (tie.spec put-requires add-result same-length returns)

@@ -1,5 +1,4 @@
 -- `vikombare::change_of` meets its contract.
--- Assumes nothing.
 use borrow.Author.Needs.{needs}
 use Rattle.vikombare.proofs.change_of.Statement.{statement}
 use Rattle.vikombare.proofs.change_of.Tie as tie

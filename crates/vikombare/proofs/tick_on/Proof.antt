@@ -1,5 +1,4 @@
 -- `vikombare::tick_on` meets its contract.
--- Assumes nothing.
 use Rattle.wire.proofs.Tests.{tests}
 use Rattle.vikombare.proofs.tick_on.Statement.{statement}
 use Rattle.vikombare.proofs.tick_on.Tie as tie

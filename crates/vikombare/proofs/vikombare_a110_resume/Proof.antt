@@ -1,10 +1,14 @@
 -- `vikombare::vikombare_a110_resume` meets its contract.
--- Assumes nothing.
 use borrow.Author.Needs.{needs}
-use mathlib.Core.Path.{_∙_}
+use mathlib.Core.Path.{ap, _∙_}
+use denote.Ref.{now}
+use Rattle.saved.specs.Block.{resumeOf}
 use Rattle.vikombare.specs.Flat.{flatChange}
 use Rattle.vikombare.proofs.vikombare_a110_resume.Statement.{statement}
 use Rattle.vikombare.proofs.vikombare_a110_resume.Tie as tie
+
+a110-board-requires : tie.Need-a110-board-requires
+a110-board-requires c κs = search needs
 
 resume-requires : tie.Need-resume-requires
 resume-requires c κs = search needs
@@ -13,7 +17,7 @@ change-of-requires : tie.Need-change-of-requires
 change-of-requires c κs = search needs
 
 returns : tie.Need-returns
-returns c = c .change-of .ensures ∙ (λ i. flatChange (record { slave = c .before .resume .ensures .0 i; reply = c .before .resume .ensures .1 i }))
+returns c = c .change-of .ensures ∙ ap flatChange (c .before .resume .ensures ∙ ap (resumeOf (now (c .before .before .before .before .args .block))) (c .before .before .a110-board .ensures))
 
 pub vikombare-a110-resume-spec : {M : Type 1} → statement M
-vikombare-a110-resume-spec = tie.close (tie.spec resume-requires change-of-requires returns)
+vikombare-a110-resume-spec = tie.close (tie.spec a110-board-requires resume-requires change-of-requires returns)

@@ -1,10 +1,13 @@
 -- `vikombare::vikombare_dvb_start` meets its contract.
--- Assumes nothing.
 use borrow.Author.Needs.{needs}
-use mathlib.Core.Path.{_∙_}
+use mathlib.Core.Path.{ap, _∙_}
+use Rattle.slave.specs.Calls.{startOf}
 use Rattle.vikombare.specs.Flat.{flatChange}
 use Rattle.vikombare.proofs.vikombare_dvb_start.Statement.{statement}
 use Rattle.vikombare.proofs.vikombare_dvb_start.Tie as tie
+
+dvb-board-requires : tie.Need-dvb-board-requires
+dvb-board-requires c κs = search needs
 
 start-requires : tie.Need-start-requires
 start-requires c κs = search needs
@@ -13,7 +16,7 @@ change-of-requires : tie.Need-change-of-requires
 change-of-requires c κs = search needs
 
 returns : tie.Need-returns
-returns c = c .change-of .ensures ∙ (λ i. flatChange (record { slave = c .before .start .ensures .0 i; reply = c .before .start .ensures .1 i }))
+returns c = c .change-of .ensures ∙ ap flatChange (c .before .start .ensures ∙ ap startOf (c .before .before .dvb-board .ensures))
 
 pub vikombare-dvb-start-spec : {M : Type 1} → statement M
-vikombare-dvb-start-spec = tie.close (tie.spec start-requires change-of-requires returns)
+vikombare-dvb-start-spec = tie.close (tie.spec dvb-board-requires start-requires change-of-requires returns)

@@ -1,7 +1,6 @@
 -- `vikombare::vikombare_gap` meets its contract.
--- Assumes nothing.
 use borrow.Author.Needs.{needs}
-use mathlib.Core.Path.{_∙_}
+use mathlib.Core.Path.{ap, _∙_}
 use Rattle.vikombare.specs.Flat.{flatChange}
 use Rattle.vikombare.proofs.vikombare_gap.Statement.{statement}
 use Rattle.vikombare.proofs.vikombare_gap.Tie as tie
@@ -13,7 +12,7 @@ change-of-requires : tie.Need-change-of-requires
 change-of-requires c κs = search needs
 
 returns : tie.Need-returns
-returns c = c .change-of .ensures ∙ (λ i. flatChange (record { slave = c .before .gap .ensures .0 i; reply = c .before .gap .ensures .1 i }))
+returns c = c .change-of .ensures ∙ ap flatChange (c .before .gap .ensures)
 
 pub vikombare-gap-spec : {M : Type 1} → statement M
 vikombare-gap-spec = tie.close (tie.spec gap-requires change-of-requires returns)

@@ -1,31 +1,59 @@
--- `vikombare::vikombare_numbers` meets its contract.
--- Assumes nothing.
+-- `vikombare::vikombare_numbers` meets its contract: a line for each way.
 use borrow.Author.Needs.{needs}
-use mathlib.Core.Path.{_≡_, ap, _∙_}
-use lib.IntN.{ℤ}
-use mir.Facts.{toZ-ofZ}
+use mathlib.Core.Path.{_≡_, sym, ap, ap₂, _∙_}
 use denote.Ref.{now}
-use Rattle.slave.specs.Answer.{Result}
 use Rattle.slave.specs.Calls.{numbersOf}
-use Rattle.replies.specs.Flat.{flatReply}
+use Rattle.slave.specs.Ways.{wayOf}
+use Rattle.slave.specs.declared.Way.{Way}
+use Rattle.vikombare.specs.Flat.{flatLeft, flatStep}
 use Rattle.vikombare.proofs.vikombare_numbers.Statement.{statement}
 use Rattle.vikombare.proofs.vikombare_numbers.Tie as tie
 
-numbers-notice-requires : tie.Need-numbers-notice-requires
-numbers-notice-requires c κs = search needs
+-- what is known of the way
+told : (c : tie.After-numbers-way) (w : Way) → c .numbers-way .result ≡ w → let a = c .before .before .args in flatStep (wayOf (a .s) w) ≡ flatStep (numbersOf (a .s) (now (a .p)) (a .tick .0) (a .x))
+told c w e = ap flatStep (ap (wayOf (c .before .before .args .s)) (sym e) ∙ c .numbers-way .ensures)
+
+numbers-way-requires : tie.Need-numbers-way-requires
+numbers-way-requires c κs = search needs
+
+enum-known-q : tie.Need-enum-known-q
+enum-known-q c = search needs
 
 reply-of-requires : tie.Need-reply-of-requires
 reply-of-requires c κs = search needs
 
 returns : tie.Need-returns
-returns c =
-    let a = c .before .before .before .before .args in
-    let told : (z : ℤ) → z ≡ a .od → numbersOf (a .s) (now (a .p)) (a .tick .0) (a .pointer) (a .sts .0) (a .md .0) z (a .index) ≡ numbersOf (a .s) (now (a .p)) (a .tick .0) (a .pointer) (a .sts .0) (a .md .0) (a .od) (a .index) =
-    λ z e. ap (λ (o : ℤ). numbersOf (a .s) (now (a .p)) (a .tick .0) (a .pointer) (a .sts .0) (a .md .0) o (a .index)) e in
-    let same = told _ (toZ-ofZ (c .before .before .before .before .fits .od)) in (
-      c .before .before .numbers-notice .ensures .0 ∙ ap (λ (r : Result). r .slave) same,
-      c .reply-of .ensures ∙ ap flatReply (c .before .before .numbers-notice .ensures .1 ∙ ap (λ (r : Result). r .reply) same),
-    )
+returns c = ap (flatLeft _) (c .reply-of .ensures) ∙ told (c .before .before .before .before .before .before .before) _ (c .before .before .before .before .before .q .given .1)
+
+enum-known-m : tie.Need-enum-known-m
+enum-known-m c = search needs
+
+reply-of-requires-2 : tie.Need-reply-of-requires-2
+reply-of-requires-2 c κs = search needs
+
+returns-2 : tie.Need-returns-2
+returns-2 c = ap (flatLeft _) (c .reply-of2 .ensures) ∙ told (c .before .before .before .before .before .before .before .before) _ (c .before .before .before .before .before .before .m .given .1)
+
+enum-known-k : tie.Need-enum-known-k
+enum-known-k c = search needs
+
+refused-requires : tie.Need-refused-requires
+refused-requires c κs = search needs
+
+returns-3 : tie.Need-returns-3
+returns-3 c = ap (flatLeft _) (c .refused .ensures) ∙ told (c .before .before .before .before) _ (c .before .before .k .given .1)
+
+enum-told : tie.Need-enum-told
+enum-told c = search needs
+
+cold-slave-requires : tie.Need-cold-slave-requires
+cold-slave-requires c κs = search needs
+
+refused-requires-2 : tie.Need-refused-requires-2
+refused-requires-2 c κs = search needs
+
+returns-4 : tie.Need-returns-4
+returns-4 c = ap₂ flatLeft (c .before .cold-slave .ensures) (c .refused2 .ensures) ∙ told (c .before .before .before .before) _ (c .before .before .enum-told .given .1)
 
 pub vikombare-numbers-spec : {M : Type 1} → statement M
-vikombare-numbers-spec = tie.close (tie.spec numbers-notice-requires reply-of-requires returns)
+vikombare-numbers-spec = tie.close (tie.spec numbers-way-requires enum-known-q reply-of-requires returns enum-known-m reply-of-requires-2 returns-2 enum-known-k refused-requires returns-3 enum-told cold-slave-requires refused-requires-2 returns-4)

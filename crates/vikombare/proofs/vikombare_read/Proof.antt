@@ -1,12 +1,12 @@
 -- `vikombare::vikombare_read` meets its contract.
--- Assumes nothing.
 use borrow.Author.Needs.{needs}
 use mathlib.Core.Path.{sym, ap, _∙_}
 use mathlib.Core.List.{List}
 use Prim.Native.Nat.{ℕ}
 use lib.ListN.{length}
 use denote.Ref.{now}
-use Rattle.notice.specs.Reader.{readOf, readingReply, addressingPart}
+use Rattle.notice.specs.Mip.{addressingField}
+use Rattle.notice.specs.Reader.{readOf, readingReply}
 use Rattle.notice.specs.declared.Reading.{Reading}
 use Rattle.vikombare.specs.Flat.{flatNotice}
 use Rattle.vikombare.proofs.vikombare_read.Statement.{statement}
@@ -34,17 +34,9 @@ returns c =
 
 returns-2 : tie.Need-returns-2
 returns-2 c =
-    let a = length (addressingPart (now (c .before .before .before .before .before .args .p))) in
+    let a = length (addressingField (now (c .before .before .before .before .before .args .p))) in
     sym (ap (λ (r : Reading). flatNotice (readingReply r) a) (c .before .k .given .1))
     ∙ ap (λ (r : _). flatNotice r a) (c .before .before .before .read-notice .ensures)
 
 pub vikombare-read-spec : {M : Type 1} → statement M
-vikombare-read-spec =
-    tie.close
-    (tie.spec
-    read-notice-requires
-    enum-known-n
-    addressing-part-requires
-    enum-known-k
-    returns
-    returns-2)
+vikombare-read-spec = tie.close (tie.spec read-notice-requires enum-known-n addressing-part-requires enum-known-k returns returns-2)

@@ -1,8 +1,8 @@
 -- `vikombare::vikombare_save` meets its contract.
--- Assumes nothing.
 use borrow.Author.Needs.{needs}
 use mathlib.Core.Path.{ap, _∙_}
-use Rattle.wire.specs.Reply.{numberOf}
+use Prim.Native.Nat.{ℕ}
+use Rattle.vikombare.specs.Flat.{filledWith, flatOutput}
 use Rattle.vikombare.proofs.vikombare_save.Statement.{statement}
 use Rattle.vikombare.proofs.vikombare_save.Tie as tie
 
@@ -16,7 +16,9 @@ same-length : tie.Need-same-length
 same-length c = search needs
 
 returns : tie.Need-returns
-returns c = (c .outcome-number .ensures ∙ ap numberOf (c .before .before .before .save .ensures .0), c .before .before .before .save .ensures .1)
+returns c =
+    let r = c .before .before .before .save in
+    ap (λ (k : ℕ). filledWith k (r .last .1 .0)) (c .outcome-number .ensures) ∙ ap flatOutput (r .ensures)
 
 pub vikombare-save-spec : {M : Type 1} → statement M
 vikombare-save-spec = tie.close (tie.spec save-requires outcome-number-requires same-length returns)

@@ -1,11 +1,12 @@
 -- `vikombare::vikombare_write` meets its contract.
--- Assumes nothing.
 use borrow.Author.Needs.{needs}
-use mathlib.Core.Path.{sym, ap, _∙_}
-use Rattle.wire.specs.Reply.{numberOf}
-use Rattle.wire.proofs.Tests.{number-reply}
-use Rattle.writer.specs.Writer.{writeReply, writtenReply}
-use Rattle.writer.specs.declared.Written.{Written}
+use mathlib.Core.Path.{_≡_, sym, ap, _∙_}
+use mathlib.Core.List.{List}
+use Prim.Native.Nat.{ℕ}
+use Rattle.wire.specs.Reply.{Output}
+use Rattle.writer.specs.Writer.{outputOf}
+use Rattle.writer.specs.declared.WriteOutcome.{WriteOutcome}
+use Rattle.vikombare.specs.Flat.{flatOutput}
 use Rattle.vikombare.proofs.vikombare_write.Statement.{statement}
 use Rattle.vikombare.proofs.vikombare_write.Tie as tie
 
@@ -21,25 +22,18 @@ enum-known-k c = search needs
 same-length : tie.Need-same-length
 same-length c = search needs
 
+-- what is known of the outcome
+told : {w : WriteOutcome} {o : Output} (v : WriteOutcome) (bytes : List ℕ) → w ≡ v → outputOf w bytes ≡ o → flatOutput (outputOf v bytes) ≡ flatOutput o
+told v bytes e d = ap flatOutput (ap (λ (y : WriteOutcome). outputOf y bytes) (sym e) ∙ d)
+
 returns : tie.Need-returns
-unfolding writeReply
-returns c = (sym (ap (λ (w : Written). numberOf (writtenReply w)) (c .enum-told .given .1)) ∙ ap numberOf (c .before .before .before .before .write-notice .ensures .0) ∙ number-reply _ _, c .before .before .before .before .write-notice .ensures .1)
+returns c = told _ _ (c .enum-told .given .1) (c .before .before .before .before .write-notice .ensures)
 
 same-length-2 : tie.Need-same-length-2
 same-length-2 c = search needs
 
 returns-2 : tie.Need-returns-2
-unfolding writeReply
-returns-2 c = (sym (ap (λ (w : Written). numberOf (writtenReply w)) (c .before .k .given .1)) ∙ ap numberOf (c .before .before .before .before .before .write-notice .ensures .0) ∙ number-reply _ _, c .before .before .before .before .before .write-notice .ensures .1)
+returns-2 c = told _ _ (c .before .k .given .1) (c .before .before .before .before .before .write-notice .ensures)
 
 pub vikombare-write-spec : {M : Type 1} → statement M
-vikombare-write-spec =
-    tie.close
-    (tie.spec
-    write-notice-requires
-    enum-told
-    enum-known-k
-    same-length
-    returns
-    same-length-2
-    returns-2)
+vikombare-write-spec = tie.close (tie.spec write-notice-requires enum-told enum-known-k same-length returns same-length-2 returns-2)

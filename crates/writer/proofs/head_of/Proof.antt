@@ -1,8 +1,5 @@
 -- `writer::head_of` meets its contract.
--- Assumes nothing.
 use borrow.Author.Needs.{needs}
-use mathlib.Core.Path.{_≡_, sym, ap, _∙_}
-use Rattle.wire.specs.BigEndian.{byte0, byte1}
 use Rattle.writer.specs.Writer.{headOf}
 use Rattle.writer.proofs.head_of.Statement.{statement}
 use Rattle.writer.proofs.head_of.Tie as tie
@@ -16,73 +13,63 @@ flags-of-requires c κs = search needs
 cast-flags : tie.Need-cast-flags
 cast-flags c = search needs
 
-add-t9 : tie.Need-add-t9
-add-t9 c = search needs
+cast-t9 : tie.Need-cast-t9
+cast-t9 c = search needs
 
 add-t10 : tie.Need-add-t10
 add-t10 c = search needs
 
-second-byte-requires : tie.Need-second-byte-requires
-second-byte-requires c κs = search needs
+cast-t11 : tie.Need-cast-t11
+cast-t11 c = search needs
+
+add-t12 : tie.Need-add-t12
+add-t12 c = search needs
 
 low-byte-requires : tie.Need-low-byte-requires
 low-byte-requires c κs = search needs
 
-second-byte-requires-2 : tie.Need-second-byte-requires-2
-second-byte-requires-2 c κs = search needs
-
 low-byte-requires-2 : tie.Need-low-byte-requires-2
 low-byte-requires-2 c κs = search needs
-
-third-byte-requires : tie.Need-third-byte-requires
-third-byte-requires c κs = search needs
-
-second-byte-requires-3 : tie.Need-second-byte-requires-3
-second-byte-requires-3 c κs = search needs
 
 low-byte-requires-3 : tie.Need-low-byte-requires-3
 low-byte-requires-3 c κs = search needs
 
-third-byte-requires-2 : tie.Need-third-byte-requires-2
-third-byte-requires-2 c κs = search needs
-
-second-byte-requires-4 : tie.Need-second-byte-requires-4
-second-byte-requires-4 c κs = search needs
-
 low-byte-requires-4 : tie.Need-low-byte-requires-4
 low-byte-requires-4 c κs = search needs
-
-fourth-byte-requires : tie.Need-fourth-byte-requires
-fourth-byte-requires c κs = search needs
-
-third-byte-requires-3 : tie.Need-third-byte-requires-3
-third-byte-requires-3 c κs = search needs
-
-second-byte-requires-5 : tie.Need-second-byte-requires-5
-second-byte-requires-5 c κs = search needs
 
 low-byte-requires-5 : tie.Need-low-byte-requires-5
 low-byte-requires-5 c κs = search needs
 
+low-byte-requires-6 : tie.Need-low-byte-requires-6
+low-byte-requires-6 c κs = search needs
+
+low-byte-requires-7 : tie.Need-low-byte-requires-7
+low-byte-requires-7 c κs = search needs
+
+low-byte-requires-8 : tie.Need-low-byte-requires-8
+low-byte-requires-8 c κs = search needs
+
+low-byte-requires-9 : tie.Need-low-byte-requires-9
+low-byte-requires-9 c κs = search needs
+
+low-byte-requires-10 : tie.Need-low-byte-requires-10
+low-byte-requires-10 c κs = search needs
+
+low-byte-requires-11 : tie.Need-low-byte-requires-11
+low-byte-requires-11 c κs = search needs
+
+low-byte-requires-12 : tie.Need-low-byte-requires-12
+low-byte-requires-12 c κs = search needs
+
+low-byte-requires-13 : tie.Need-low-byte-requires-13
+low-byte-requires-13 c κs = search needs
+
+low-byte-requires-14 : tie.Need-low-byte-requires-14
+low-byte-requires-14 c κs = search needs
+
 returns : tie.Need-returns
 unfolding headOf
-returns c =
-    simp (
-      c .before .before .before .before .before .before .before .before .before .before .before .before .before .second-byte .ensures,
-      c .before .before .before .before .before .before .before .before .before .before .before .before .low-byte .ensures,
-      c .before .before .before .before .before .before .before .before .before .before .before .second-byte2 .ensures ∙ ap byte1 (c .before .before .before .before .before .before .before .before .before .before .before .before .before .before .before .before .before .flags-of .ensures),
-      c .before .before .before .before .before .before .before .before .before .before .low-byte2 .ensures ∙ ap byte0 (c .before .before .before .before .before .before .before .before .before .before .before .before .before .before .before .before .before .flags-of .ensures),
-      c .before .before .before .before .before .before .before .before .before .third-byte .ensures,
-      c .before .before .before .before .before .before .before .before .second-byte3 .ensures,
-      c .before .before .before .before .before .before .before .low-byte3 .ensures,
-      c .before .before .before .before .before .before .third-byte2 .ensures,
-      c .before .before .before .before .before .second-byte4 .ensures,
-      c .before .before .before .before .low-byte4 .ensures,
-      c .before .before .before .fourth-byte .ensures,
-      c .before .before .third-byte3 .ensures,
-      c .before .second-byte5 .ensures,
-      c .low-byte5 .ensures,
-    )
+returns c = cc
 
 pub head-of-spec : {M : Type 1} → statement M
 head-of-spec =
@@ -91,20 +78,22 @@ head-of-spec =
     cast-pointer
     flags-of-requires
     cast-flags
-    add-t9
+    cast-t9
     add-t10
-    second-byte-requires
+    cast-t11
+    add-t12
     low-byte-requires
-    second-byte-requires-2
     low-byte-requires-2
-    third-byte-requires
-    second-byte-requires-3
     low-byte-requires-3
-    third-byte-requires-2
-    second-byte-requires-4
     low-byte-requires-4
-    fourth-byte-requires
-    third-byte-requires-3
-    second-byte-requires-5
     low-byte-requires-5
+    low-byte-requires-6
+    low-byte-requires-7
+    low-byte-requires-8
+    low-byte-requires-9
+    low-byte-requires-10
+    low-byte-requires-11
+    low-byte-requires-12
+    low-byte-requires-13
+    low-byte-requires-14
     returns)

@@ -1,5 +1,4 @@
 -- `writer::put_fields` meets its contract.
--- Assumes nothing.
 use borrow.Author.Needs.{needs}
 use mathlib.Core.Path.{_∙_}
 use denote.Ref.{now}
@@ -28,8 +27,12 @@ same-length c = search needs
 
 returns : tie.Need-returns
 returns c =
-    let a = c .before .before .before .before .before .before .before .before .before .before .before .before .args in
-    fields-put (a .n) (now (a .field)) (now (a .out)) (c .before .before .before .before .before .before .put .last .0) (c .before .before .put2 .last .0) (c .before .before .before .before .before .before .before .before .before .head-of .result) (c .before .before .before .before .before .before .before .before .before .head-of .ensures) (c .before .before .before .before .before .before .put .ensures ∙ put-fits _ _ _ (search needs)) (c .before .before .put2 .ensures ∙ put-fits _ _ _ (search needs))
+    let second = c .before .before .put2 in
+    let first = c .before .before .before .before .before .before in
+    let head = first .before .before .before .head-of in
+    let a = first .before .before .before .before .before .before .args in
+    fields-put (a .n) (now (a .field)) (now (a .out)) (first .put .last .0) (second .last .0) (head .result) (head .ensures)
+    (first .put .ensures ∙ put-fits _ _ _ (search needs)) (second .ensures ∙ put-fits _ _ _ (search needs))
 
 pub put-fields-spec : {M : Type 1} → statement M
 put-fields-spec =

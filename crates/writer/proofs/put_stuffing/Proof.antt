@@ -1,5 +1,4 @@
 -- `writer::put_stuffing` meets its contract.
--- Assumes nothing.
 use borrow.Author.Needs.{needs}
 use mathlib.Core.Path.{sym, _∙_}
 use native.Mathlib.Omega.{arith}
@@ -26,8 +25,10 @@ same-length c = search needs
 
 returns : tie.Need-returns
 returns c =
+    let put = c .before .before .put in
     let a = c .before .before .before .before .before .before .args in
-    stuffing-put (now (a .out)) (c .before .before .put .last .0) (a .from) (omega arith) (omega arith) (c .before .before .put .ensures ∙ put-fits _ _ _ (omega (arith, stuffing-length (a .from) (omega arith))))
+    stuffing-put (now (a .out)) (put .last .0) (a .from) (omega arith) (omega arith)
+    (put .ensures ∙ put-fits _ _ _ (omega (arith, stuffing-length (a .from) (omega arith))))
 
 pub put-stuffing-spec : {M : Type 1} → statement M
 put-stuffing-spec =

@@ -1,30 +1,44 @@
 -- `writer::write_notice` meets its contract.
--- Assumes nothing.
 use borrow.Author.Needs.{needs}
 use mathlib.Core.Path.{_≡_, sym, ap, _∙_}
+use mathlib.Core.List.{List}
+use Prim.Native.Nat.{ℕ}
 use native.Mathlib.Omega.{arith}
 use lib.ListN.{length}
 use denote.Ref.{now}
+use Rattle.wire.specs.Reply.{refused, given}
+use Rattle.wire.proofs.Tests.{refused-output, given-output}
 use Rattle.check_value.proofs.Sealing.{seal-fits}
-use Rattle.writer.specs.Writer.{writeOf, writeReply}
-use Rattle.wire.specs.Reply.{refused}
-use Rattle.wire.proofs.Tests.{reply-refuses, reply-gives, kept-old, kept-new}
+use Rattle.writer.specs.Writable.{Writable}
+use Rattle.writer.specs.Writer.{writeRefusal, writeOf}
 use Rattle.writer.proofs.Writing.{write-fits, packet-put}
 use Rattle.writer.proofs.write_notice.Statement.{statement}
 use Rattle.writer.proofs.write_notice.Tie as tie
+
+abbrev entered : tie.Else1 → tie.Start
+entered c = c .before .before .before .before
+
+-- what is written was accepted, and fits
+accepted : (c : tie.Else1) → writeRefusal (length (now (entered c .args .out))) (entered c .args .n) (now (entered c .args .field)) ≡ 0
+accepted c = sym (c .before .write-refusal .ensures) ∙ c .if1 .left
+
+fits : (c : tie.Else1) → Writable (length (now (entered c .args .out))) (entered c .args .n) (now (entered c .args .field))
+fits c = write-fits _ _ _ (accepted c)
 
 write-refusal-requires : tie.Need-write-refusal-requires
 write-refusal-requires c κs = search needs
 
 returns : tie.Need-returns
-unfolding writeOf writeReply
-returns c = (ap refused (c .before .write-refusal .ensures) ∙ sym (reply-refuses _ _ (λ e. c .if1 .taken (c .before .write-refusal .ensures ∙ e))), sym (kept-old _ _ _ (λ e. c .if1 .taken (c .before .write-refusal .ensures ∙ e))))
+unfolding writeOf
+returns c =
+    let e = c .before .write-refusal .ensures in
+    ap (λ (k : ℕ). record { reply = refused k; bytes = now (c .before .before .before .before .args .out) }) e ∙ sym (refused-output _ _ _ (λ z. c .if1 .taken (e ∙ z)))
 
 add-end : tie.Need-add-end
 add-end c = search needs
 
 put-fields-requires : tie.Need-put-fields-requires
-put-fields-requires c κs = write-fits _ _ _ (sym (c .before .before .write-refusal .ensures) ∙ c .before .if1 .left)
+put-fields-requires c κs = fits (c .before)
 
 seal-requires : tie.Need-seal-requires
 seal-requires c κs = search needs
@@ -34,22 +48,26 @@ add-put-stuffing c = search needs
 
 put-stuffing-requires : tie.Need-put-stuffing-requires
 put-stuffing-requires c κs =
-    let a = c .before .before .before .before .before .before .before .before .before .before .before .before .before .args in
-    let fits = write-fits (length (now (a .out))) (a .n) (now (a .field)) (sym (c .before .before .before .before .before .before .before .before .before .before .write-refusal .ensures) ∙ c .before .before .before .before .before .before .before .before .before .if1 .left) in
-    omega (arith, c .before .before .before .before .before .before .before .put-fields .kept .0, c .before .before .before .seal .kept .0)
+    let sealing = c .before .before .before in
+    let putting = sealing .before .before .before .before in
+    let w = fits (putting .before .before) in
+    omega (arith, putting .put-fields .kept .0, sealing .seal .kept .0)
 
 same-length : tie.Need-same-length
 same-length c = search needs
 
 returns-2 : tie.Need-returns-2
-unfolding writeOf writeReply
+unfolding writeOf
 returns-2 c =
-    let a = c .before .before .before .before .before .before .before .before .before .before .before .before .before .before .before .before .args in
-    let none = sym (c .before .before .before .before .before .before .before .before .before .before .before .before .before .write-refusal .ensures) ∙ c .before .before .before .before .before .before .before .before .before .before .before .before .if1 .left in (
-      sym (reply-gives _ _ none),
-      packet-put (a .n) (now (a .field)) (now (a .out)) (c .before .before .before .before .before .before .before .before .before .before .put-fields .last .0) (c .before .before .before .before .before .before .seal .last .0) (c .before .before .put-stuffing .last .0) (write-fits (length (now (a .out))) (a .n) (now (a .field)) none .short)
-          (c .before .before .before .before .before .before .before .before .before .before .put-fields .ensures) (c .before .before .before .before .before .before .seal .ensures ∙ seal-fits _ _ (let fits = write-fits (length (now (a .out))) (a .n) (now (a .field)) none in omega (arith, c .before .before .before .before .before .before .before .before .before .before .put-fields .kept .0))) (c .before .before .put-stuffing .ensures) ∙ sym (kept-new _ _ _ none),
-    )
+    let stuffing = c .before .before in
+    let sealing = stuffing .before .before .before .before in
+    let putting = sealing .before .before .before .before in
+    let w = fits (putting .before .before) in
+    let a = entered (putting .before .before) .args in
+    let packet =
+    packet-put (a .n) (now (a .field)) (now (a .out)) (putting .put-fields .last .0) (sealing .seal .last .0) (stuffing .put-stuffing .last .0) (w .short)
+    (putting .put-fields .ensures) (sealing .seal .ensures ∙ seal-fits _ _ (omega (arith, putting .put-fields .kept .0))) (stuffing .put-stuffing .ensures) in
+    ap (λ (d : List ℕ). record { reply = given tt; bytes = d }) packet ∙ sym (given-output _ _ _ (accepted (putting .before .before)))
 
 pub write-notice-spec : {M : Type 1} → statement M
 write-notice-spec =

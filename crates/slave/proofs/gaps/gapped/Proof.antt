@@ -1,15 +1,23 @@
 -- `slave::gaps::gapped` meets its contract.
--- Assumes nothing.
 use borrow.Author.Needs.{needs}
-use Prim.Native.Nat.{_+_, _-_, _%_}
-use native.Mathlib.Nat.{mod-lt, div-le-self}
+use mathlib.Core.Path.{_≡_, refl, sym, ap, _∙_}
 use native.Mathlib.Omega.{arith}
-use Rattle.slave.proofs.GapWays.{gap-unheard, gap-kept, gap-dropped}
+use Prim.Native.Nat.{_+_, _-_, _/_, _≤_, _<_}
+use native.Mathlib.Nat.{mod-lt, div-le-self}
+use Rattle.state.proofs.Sound.{settings-kept, some-packets, fitting, cadence-range}
+use Rattle.slave.proofs.Passing.{gap-unheard, gap-kept, gap-dropped}
 use Rattle.slave.proofs.gaps.gapped.Statement.{statement}
 use Rattle.slave.proofs.gaps.gapped.Tie as tie
 
+-- the cadence has packets, and the count is within it
+some : (c : tie.Start) → 0 < c .args .s .board .n
+some c = some-packets (c .args .s .board) (settings-kept (c .args .s) (c .pre))
+
+below : (c : tie.Start) → c .args .s .count .next < c .args .s .board .n
+below c = fitting (c .args .s) (c .pre) .below
+
 returns : tie.Need-returns
-returns c = gap-unheard (c .before .before .args .s) (c .before .before .args .k) (c .if1 .taken)
+returns c = let a = c .before .before .before .before .before .before .args in gap-unheard (a .s) (a .k) (c .if1 .taken)
 
 cast-n : tie.Need-cast-n
 cast-n c = search needs
@@ -17,44 +25,54 @@ cast-n c = search needs
 cast-next : tie.Need-cast-next
 cast-next c = search needs
 
-sub-left : tie.Need-sub-left
-sub-left c = search needs
+to-mark-requires : tie.Need-to-mark-requires
+to-mark-requires c κs = below (c .before .before .before .before .before .before .before .before)
 
-rem-left : tie.Need-rem-left
-rem-left c = search needs
+add-after : tie.Need-add-after
+add-after c = search needs
 
-add-t : tie.Need-add-t
-add-t c = search needs
+rem-after : tie.Need-rem-after
+rem-after c = omega (arith, some (c .before .before .before .before .before .before .before .before .before))
 
-rem-t : tie.Need-rem-t
-rem-t c = search needs
-
-cast-t : tie.Need-cast-t
-cast-t c = omega (arith, mod-lt (c .before .before .before .before .args .s .next + c .before .before .before .before .args .k) {m = c .before .before .before .before .args .s .n} (omega arith))
+cast-after : tie.Need-cast-after
+cast-after c = let a = c .before .before .before .before .before .before .before .before .before .args in omega (arith, mod-lt (a .s .count .next + a .k) {m = a .s .board .n} (some (c .before .before .before .before .before .before .before .before .before)))
 
 raised-requires : tie.Need-raised-requires
 raised-requires c κs = search needs
 
+locked-at-requires : tie.Need-locked-at-requires
+locked-at-requires c κs = search needs
+
 returns-2 : tie.Need-returns-2
-returns-2 c = gap-kept (c .before .before .before .before .before .before .args .s) (c .before .before .before .before .before .before .args .k) (c .before .before .before .before .if1 .left) (c .raised .result) (c .raised .ensures) (c .before .if2 .taken)
+returns-2 c =
+    let a = c .before .before .before .before .before .before .before .before .before .before .before .before .args in
+    gap-kept (a .s) (a .k) (c .before .before .before .before .before .before .if1 .left) _ (c .before .before .before .to-mark .ensures) _ _ (c .locked-at .ensures) (c .before .raised .ensures) (c .before .before .if2 .taken)
 
-sub-raised : tie.Need-sub-raised
-sub-raised c = search needs
+sub-marks : tie.Need-sub-marks
+sub-marks c = search needs
 
-sub-raised-2 : tie.Need-sub-raised-2
-sub-raised-2 c = search needs
+sub-marks-2 : tie.Need-sub-marks-2
+sub-marks-2 c = search needs
 
-div-raised : tie.Need-div-raised
-div-raised c = search needs
+div-marks : tie.Need-div-marks
+div-marks c = omega (arith, some (c .before .before .before .before .before .before .before .before .before .before))
 
-add-raised : tie.Need-add-raised
-add-raised c = omega (arith, div-le-self (c .before .before .before .before .before .args .k - 1 - (c .before .before .before .before .before .args .s .n - c .before .before .before .before .before .args .s .next) % c .before .before .before .before .before .args .s .n) (c .before .before .before .before .before .args .s .n))
+add-marks : tie.Need-add-marks
+add-marks c = let a = c .before .before .before .before .before .before .before .before .before .before .args in omega (arith, div-le-self (a .k - 1 - c .before .to-mark .result) (a .s .board .n))
 
 raised-requires-2 : tie.Need-raised-requires-2
-raised-requires-2 c κs = omega (arith, div-le-self (c .before .before .before .before .before .args .k - 1 - (c .before .before .before .before .before .args .s .n - c .before .before .before .before .before .args .s .next) % c .before .before .before .before .before .args .s .n) (c .before .before .before .before .before .args .s .n))
+raised-requires-2 c κs = let a = c .before .before .before .before .before .before .before .before .before .before .args in omega (arith, div-le-self (a .k - 1 - c .before .to-mark .result) (a .s .board .n))
+
+locked-at-requires-2 : tie.Need-locked-at-requires-2
+locked-at-requires-2 c κs = search needs
+
+nothing-waiting-requires : tie.Need-nothing-waiting-requires
+nothing-waiting-requires c κs = search needs
 
 returns-3 : tie.Need-returns-3
-returns-3 c = gap-dropped (c .before .before .before .before .before .before .args .s) (c .before .before .before .before .before .before .args .k) (c .before .before .before .before .if1 .left) (c .raised2 .result) (c .raised2 .ensures) (c .before .if2 .left)
+returns-3 c =
+    let a = c .before .before .before .before .before .before .before .before .before .before .before .before .before .args in
+    gap-dropped (a .s) (a .k) (c .before .before .before .before .before .before .before .if1 .left) _ (c .before .before .before .before .to-mark .ensures) _ _ (c .before .locked-at2 .ensures) (c .before .before .raised2 .ensures) (c .before .before .before .if2 .left) (c .nothing-waiting .ensures)
 
 pub gapped-spec : {M : Type 1} → statement M
 gapped-spec =
@@ -63,16 +81,18 @@ gapped-spec =
     returns
     cast-n
     cast-next
-    sub-left
-    rem-left
-    add-t
-    rem-t
-    cast-t
+    to-mark-requires
+    add-after
+    rem-after
+    cast-after
     raised-requires
+    locked-at-requires
     returns-2
-    sub-raised
-    sub-raised-2
-    div-raised
-    add-raised
+    sub-marks
+    sub-marks-2
+    div-marks
+    add-marks
     raised-requires-2
+    locked-at-requires-2
+    nothing-waiting-requires
     returns-3)

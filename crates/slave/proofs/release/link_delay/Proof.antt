@@ -1,9 +1,9 @@
--- `times::link_delay` meets its contract.
+-- `slave::release::link_delay` meets its contract.
 use mathlib.Core.Path.{sym}
 use borrow.Author.Needs.{needs}
 use Rattle.times.proofs.Formulas.{link-behind, link-ahead}
-use Rattle.times.proofs.link_delay.Statement.{statement}
-use Rattle.times.proofs.link_delay.Tie as tie
+use Rattle.slave.proofs.release.link_delay.Statement.{statement}
+use Rattle.slave.proofs.release.link_delay.Tie as tie
 
 add-result : tie.Need-add-result
 add-result c = search needs

@@ -1,9 +1,9 @@
--- `times::modulation_time` meets its contract.
+-- `slave::release::modulation_time` meets its contract.
 use mathlib.Core.Path.{sym}
 use borrow.Author.Needs.{needs}
 use Rattle.times.proofs.Formulas.{modulation-under, modulation-over}
-use Rattle.times.proofs.modulation_time.Statement.{statement}
-use Rattle.times.proofs.modulation_time.Tie as tie
+use Rattle.slave.proofs.release.modulation_time.Statement.{statement}
+use Rattle.slave.proofs.release.modulation_time.Tie as tie
 
 add-result : tie.Need-add-result
 add-result c = search needs

@@ -1,5 +1,4 @@
 -- `slave::steps::index_after` meets its contract.
--- Assumes nothing.
 use Rattle.wire.proofs.Tests.{tests}
 use Rattle.slave.proofs.steps.index_after.Statement.{statement}
 use Rattle.slave.proofs.steps.index_after.Tie as tie

@@ -1,7 +1,6 @@
 -- `slave::steps::index_at` meets its contract.
--- Assumes nothing.
 use borrow.Author.Needs.{needs}
-use mathlib.Core.Path.{_≡_, sym, _∙_}
+use mathlib.Core.Path.{_≡_, refl, sym, ap, _∙_}
 use borrow.Author.Tests.{eq-eqb, ne-eqb}
 use Rattle.slave.proofs.steps.index_at.Statement.{statement}
 use Rattle.slave.proofs.steps.index_at.Tie as tie

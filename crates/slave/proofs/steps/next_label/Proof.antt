@@ -1,8 +1,7 @@
 -- `slave::steps::next_label` meets its contract.
--- Assumes nothing.
 use borrow.Author.Needs.{needs}
 use mathlib.Core.Path.{_≡_, sym, ap, _∙_}
-use Prim.Native.Nat.{ℕ, _+_, _%_}
+use Prim.Native.Nat.{ℕ, _%_}
 use native.Mathlib.Nat.{mod-self, mod-eq-of-lt}
 use native.Mathlib.Omega.{arith}
 use Rattle.slave.proofs.steps.next_label.Statement.{statement}

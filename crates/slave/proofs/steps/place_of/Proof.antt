@@ -1,9 +1,8 @@
 -- `slave::steps::place_of` meets its contract.
--- Assumes nothing.
 use borrow.Author.Needs.{needs}
-use mathlib.Core.Path.{_≡_, sym, ap, _∙_}
+use mathlib.Core.Path.{_≡_, refl, sym, ap, _∙_}
 use borrow.Author.Tests.{eq-eqb, ne-eqb}
-use Rattle.slave.specs.Answer.{some}
+use mathlib.Core.Option.{some}
 use Rattle.slave.proofs.steps.place_of.Statement.{statement}
 use Rattle.slave.proofs.steps.place_of.Tie as tie
 

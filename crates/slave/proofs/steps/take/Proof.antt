@@ -1,10 +1,12 @@
 -- `slave::steps::take` meets its contract.
--- Assumes nothing.
 use borrow.Author.Needs.{needs}
 use mathlib.Core.Path.{_≡_, refl, sym, ap, _∙_}
-use Prim.Native.Nat.{_-_}
-use Rattle.slave.specs.Answer.{Result, markOf}
-use Rattle.slave.proofs.Ways.{took-agreeing, took-slipping, took-locking}
+use mathlib.Core.Bool.{cond}
+use lib.Dec.{eqb}
+use Prim.Native.Nat.{ℕ, _-_}
+use Rattle.slave.specs.Answer.{optionOf, noticeOf, Mark, untimed, unmarked, markOf}
+use Rattle.slave.specs.Step.{lockedAt, agrees}
+use Rattle.slave.proofs.Stepping.{takes}
 use Rattle.slave.proofs.steps.take.Statement.{statement}
 use Rattle.slave.proofs.steps.take.Tie as tie
 
@@ -14,44 +16,37 @@ sub-label c = search needs
 sub-label-2 : tie.Need-sub-label-2
 sub-label-2 c = search needs
 
-index-at-requires : tie.Need-index-at-requires
-index-at-requires c κs = search needs
+index-before-requires : tie.Need-index-before-requires
+index-before-requires c κs = search needs
 
-mark-at-requires : tie.Need-mark-at-requires
-mark-at-requires c κs = search needs
+index-after-requires : tie.Need-index-after-requires
+index-after-requires c κs = search needs
 
-enter-requires : tie.Need-enter-requires
-enter-requires c κs = search needs
+next-label-requires : tie.Need-next-label-requires
+next-label-requires c κs = search needs
+
+locked-at-requires : tie.Need-locked-at-requires
+locked-at-requires c κs = search needs
+
+notice-taken-requires : tie.Need-notice-taken-requires
+notice-taken-requires c κs = search needs
+
+turned-requires : tie.Need-turned-requires
+turned-requires c κs = search needs
+
+mark-taken-requires : tie.Need-mark-taken-requires
+mark-taken-requires c κs = search needs
+
+place-of-requires : tie.Need-place-of-requires
+place-of-requires c κs = search needs
 
 returns : tie.Need-returns
-returns c =
-    let a = c .before .before .before .before .before .before .before .before .before .args in
-    let q = took-agreeing (a .s) (a .t) (a .tick) (a .s .n - 1 - a .t .pointer) refl (c .before .before .index-at .result) (markOf (c .before .mark-at .result)) (c .before .before .before .before .before .if1 .taken) (c .before .before .before .if2 .taken) (c .before .before .index-at .ensures) (c .before .mark-at .ensures) in
-    (c .enter .ensures .0 ∙ ap (λ (r : Result). r .slave) q, c .enter .ensures .1 ∙ ap (λ (r : Result). r .reply) q)
-
-mark-alone-requires : tie.Need-mark-alone-requires
-mark-alone-requires c κs = search needs
-
-enter-requires-2 : tie.Need-enter-requires-2
-enter-requires-2 c κs = search needs
-
-returns-2 : tie.Need-returns-2
-returns-2 c =
-    let a = c .before .before .before .before .before .before .before .before .args in
-    let q = took-slipping (a .s) (a .t) (a .tick) (a .s .n - 1 - a .t .pointer) refl 255 (markOf (c .before .mark-alone .result)) (c .before .before .before .before .if1 .taken) (c .before .before .if2 .left) refl (c .before .mark-alone .ensures) in
-    (c .enter2 .ensures .0 ∙ ap (λ (r : Result). r .slave) q, c .enter2 .ensures .1 ∙ ap (λ (r : Result). r .reply) q)
-
-mark-alone-requires-2 : tie.Need-mark-alone-requires-2
-mark-alone-requires-2 c κs = search needs
-
-enter-requires-3 : tie.Need-enter-requires-3
-enter-requires-3 c κs = search needs
-
-returns-3 : tie.Need-returns-3
-returns-3 c =
-    let a = c .before .before .before .before .before .before .args in
-    let q = took-locking (a .s) (a .t) (a .tick) (a .s .n - 1 - a .t .pointer) refl 255 (markOf (c .before .mark-alone2 .result)) (c .before .before .if1 .left) refl (c .before .mark-alone2 .ensures) in
-    (c .enter3 .ensures .0 ∙ ap (λ (r : Result). r .slave) q, c .enter3 .ensures .1 ∙ ap (λ (r : Result). r .reply) q)
+returns c = λ tick m.
+    let a = c .before .before .before .before .before .before .before .before .before .before .before .before .before .args in
+    let label : ℕ = a .s .board .n - 1 - a .t .pointer in
+    takes (a .s) (a .t) tick _ refl (noticeOf (c .before .before .before .notice-taken .result)) (markOf (c .before .mark-taken .result)) (c .before .before .before .before .before .before .before .index-before .result) (c .before .before .before .before .before .before .index-after .result) (c .before .before .turned .result) (optionOf (c .place-of .result)) _ (c .before .before .before .before .locked-at .result)
+    (c .before .before .before .notice-taken .ensures) (c .before .mark-taken .ensures ∙ ap (λ (x : Mark). cond (agrees (a .s .count) label) x (cond (eqb label 0) untimed unmarked)) m) (c .before .before .before .before .before .before .before .index-before .ensures) (c .before .before .before .before .before .before .index-after .ensures) (c .before .before .turned .ensures) (c .place-of .ensures) refl
+    (c .before .before .before .before .locked-at .ensures ∙ ap (λ (x : ℕ). lockedAt x (c .before .before .before .before .before .before .index-after .result)) (c .before .before .before .before .before .next-label .ensures))
 
 pub take-spec : {M : Type 1} → statement M
 take-spec =
@@ -59,13 +54,12 @@ take-spec =
     (tie.spec
     sub-label
     sub-label-2
-    index-at-requires
-    mark-at-requires
-    enter-requires
-    returns
-    mark-alone-requires
-    enter-requires-2
-    returns-2
-    mark-alone-requires-2
-    enter-requires-3
-    returns-3)
+    index-before-requires
+    index-after-requires
+    next-label-requires
+    locked-at-requires
+    notice-taken-requires
+    turned-requires
+    mark-taken-requires
+    place-of-requires
+    returns)

@@ -1,5 +1,4 @@
 -- `slave::steps::turned` meets its contract.
--- Assumes nothing.
 use Rattle.wire.proofs.Tests.{tests}
 use Rattle.slave.proofs.steps.turned.Statement.{statement}
 use Rattle.slave.proofs.steps.turned.Tie as tie
