@@ -81,6 +81,6 @@ pub fn measure(ours: &str, plain: &str, file: &str) -> Result<()> {
     for (name, took) in [("proved", first), ("plain Rust", second)] {
         println!("| | {name} | {:.3} | {:.0} | {:.3} | {} |", took.wall, bytes as f64 / 1e6 / took.wall, took.cpu, took.memory);
     }
-    println!("| | proved / plain | {:.2} | | {:.2} | |", second.wall / first.wall, second.cpu / first.cpu);
+    println!("| | throughput, proved / plain | {:.2} | | {:.2} | |", second.wall / first.wall, second.cpu / first.cpu);
     Ok(())
 }
