@@ -11,5 +11,6 @@ pub data Judgement : Type 0 where
 
 -- the code's answer in these numbers and values
 abbrev pub judgementOf : Judged′.Judged → Judgement
+judgementOf judged.Plain = Counts 0
 judgementOf (judged.Counts k) = Counts k
 judgementOf (judged.Takes t) = Takes t

@@ -28,8 +28,9 @@ pub struct Taken {
     pub md: u32,
 }
 
-// How a packet that arrived right was judged: it counts, with the number of C that ignores its notice or 0 for no notice; or its notice is taken.
+// How a packet that arrived right was judged: it carries no notice; a number of C ignores its notice; or its notice is taken.
 pub enum Judged {
+    Plain,
     Counts(u8),
     Takes(Taken),
 }
@@ -147,7 +148,7 @@ pub fn judge_arrived(b: Board, t: Settings, p: &[u8]) -> Judged
     if carries(b.profile, p) {
         return judge_mip(b, t, p);
     }
-    Judged::Counts(0)
+    Judged::Plain
 }
 
 // A numbers notice whose packet arrived right. Frequency and power stay as they are.

@@ -6,7 +6,7 @@ use Prim.Native.Nat.{ℕ, zero, suc}
 use lib.Dec.{eqb}
 use lib.IntN.{ℤ}
 use borrow.Author.Tests.{eqb-true, eq-eqb, ne-eqb}
-use Rattle.wire.specs.Reply.{Reply, given}
+use Rattle.wire.specs.Reply.{given}
 use Rattle.wire.proofs.Tests.{both}
 use Rattle.cadence.specs.Label.{labelOf, nextLabel}
 use Rattle.addressing.specs.declared.Settings.{Settings}
@@ -16,7 +16,7 @@ use Rattle.state.specs.declared.Waiting.{Waiting}
 use Rattle.state.specs.declared.Slave.{Slave}
 use Rattle.judging.specs.declared.Taken.{Taken}
 use Rattle.slave.specs.Answer.{Notice, ignored, Mark, unmarked, untimed, Report, Result, left}
-use Rattle.slave.specs.Step.{raised, placeOf, lockedAt, movedTo, releaseAt, onMark, markAt, countedReport, unheardReport, passed, unheard, noticeBy, counted, agrees, markTaken, indexBefore, indexAfter, turns, noticeTaken, entered, took}
+use Rattle.slave.specs.Step.{raised, placeOf, lockedAt, movedTo, releaseAt, onMark, markAt, indexAt, keptAt, countedReport, unheardReport, passed, unheard, noticeBy, counted, agrees, markTaken, indexBefore, indexAfter, turns, noticeTaken, entered, took}
 
 -- a number of C ignores the notice
 pub notice-ignored : (k : ℕ) → (k ≡ 0 → ⊥) → ignored k ≡ noticeBy k
@@ -44,27 +44,35 @@ marked c m = let b = both (eqb (c .phase) 2) _ m in (eqb-true _ _ (b .0), eqb-tr
 
 -- ---- a counted packet
 module _ (s : Slave) (k tick : ℕ) where
-  pub counts-unheard : (s .count .phase ≡ 2 → ⊥) → (notice : Notice) → notice ≡ noticeBy k → left s (given (unheardReport notice)) ≡ counted s k tick
+  pub counts-unheard : (s .count .phase ≡ 2 → ⊥) → (report : Report) → report ≡ unheardReport (noticeBy k) → left s (given report) ≡ counted s k tick
   unfolding counted unheard
-  counts-unheard e notice n = rw (ne-eqb (s .count .phase) 2 e, n)
+  counts-unheard e report r = rw (ne-eqb (s .count .phase) 2 e, r)
 
   module _ (e : s .count .phase ≡ 2) where
-    -- between the marks only the count moves
-    pub counts-on : onMark (s .count) ≡ false → (next : ℕ) (reply : Reply Report) → next ≡ nextLabel (s .board .n) (s .count .next)
-        → reply ≡ given (countedReport (s .count .next) (s .count .index) (noticeBy k) unmarked)
-        → left (movedTo s (s .settings) (record { phase = s .count .phase; next = next; index = s .count .index }) (s .waiting)) reply ≡ counted s k tick
+    -- by a locked slave
+    pub counts-locked : (mark : Mark) (index : ℕ) (count : Count) (waiting : Waiting) (report : Report)
+        → mark ≡ markAt s tick → index ≡ indexAt (s .count) → count ≡ lockedAt (nextLabel (s .board .n) (s .count .next)) index
+        → waiting ≡ keptAt s → report ≡ countedReport (s .count .next) index (noticeBy k) mark
+        → left (movedTo s (s .settings) count waiting) (given report) ≡ counted s k tick
     unfolding counted passed
-    counts-on m next reply n r =
-        let z : eqb (s .count .next) 0 ≡ false = rw (eq-eqb (s .count .phase) 2 e) at m in
-        rw (r, n, eq-eqb (s .count .phase) 2 e, z, ← mark-none s tick m, e)
+    counts-locked mark index count waiting report m i c w r = rw (r, c, w, m, i, eq-eqb (s .count .phase) 2 e)
+
+    -- between the marks only the label moves
+    pub counts-on : (s .count .next ≡ 0 → ⊥) → (next : ℕ) (report : Report) → next ≡ nextLabel (s .board .n) (s .count .next)
+        → report ≡ countedReport (s .count .next) (s .count .index) (noticeBy k) unmarked
+        → left (movedTo s (s .settings) (record { phase = s .count .phase; next = next; index = s .count .index }) (s .waiting)) (given report) ≡ counted s k tick
+    counts-on z next report n r =
+        let y = ne-eqb (s .count .next) 0 z in
+        counts-locked unmarked (s .count .index) _ (s .waiting) report (mark-none s tick (rw (eq-eqb (s .count .phase) 2 e, y))) (rw y) (rw (e, n)) (rw y) r
 
     -- on a mark the notice goes
-    pub counts-mark : s .count .next ≡ 0 → (mark : Mark) (index : ℕ) (count : Count) (waiting : Waiting) (reply : Reply Report)
+    pub counts-mark : s .count .next ≡ 0 → (mark : Mark) (index : ℕ) (count : Count) (report : Report)
         → mark ≡ markAt s tick → index ≡ raised (s .count .index) 1 → count ≡ lockedAt (nextLabel (s .board .n) (s .count .next)) index
-        → waiting ≡ nothing → reply ≡ given (countedReport (s .count .next) index (noticeBy k) mark)
-        → left (movedTo s (s .settings) count waiting) reply ≡ counted s k tick
-    unfolding counted passed
-    counts-mark z mark index count waiting reply m i c w r = rw (r, c, w, m, i, eq-eqb (s .count .phase) 2 e, eq-eqb (s .count .next) 0 z)
+        → report ≡ countedReport (s .count .next) index (noticeBy k) mark
+        → left (movedTo s (s .settings) count nothing) (given report) ≡ counted s k tick
+    counts-mark z mark index count report m i c r =
+        let y = eq-eqb (s .count .next) 0 z in
+        counts-locked mark index count nothing report m (rw y i) c (rw y) r
 
 -- ---- a notice that is taken
 module _ (s : Slave) (t : Taken) (tick label : ℕ) (l : label ≡ labelOf (s .board .n) (t .pointer)) where

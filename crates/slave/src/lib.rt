@@ -76,7 +76,13 @@ pub struct Shifted {
 // The next label moves, and nothing else of the slave.
 pub struct Short {
     pub next: u16,
-    pub answer: Answer,
+    pub report: Counted,
+}
+
+// A mark is passed: the count moves, and nothing waits any more.
+pub struct Marked {
+    pub count: Count,
+    pub report: Counted,
 }
 
 // All that a packet may change.
@@ -84,14 +90,17 @@ pub struct Moved {
     pub settings: Settings,
     pub count: Count,
     pub waiting: Waiting,
-    pub answer: Answer,
+    pub report: Counted,
 }
 
-// What a packet does to a slave: the slave is not sound (15); the call is refused; the count moves; or more.
+// What a packet does to a slave. Cold: it is not sound (15). Refused: by a number of K. Packets without a notice have three ways of their own: a hunting
+// slave stays as it is, the label moves on, or a mark is passed.
 pub enum Way {
     Cold,
     Refused(u8),
+    Hunts,
     Short(Short),
+    Marked(Marked),
     Moved(Moved),
 }
 
@@ -132,12 +141,18 @@ fn arrived(s: Slave, p: &[u8], tick: u32) -> Way
     let board = s.board;
     let settings = s.settings;
     match judging::judge_arrived(board, settings, p) {
-        Judged::Counts(k) => {
+        Judged::Plain => {
             let count = s.count;
-            if steps::on_mark(count) {
-                return Way::Moved(steps::pass_mark(s, k, steps::mark_at(s, tick)));
+            if count.phase != 2 {
+                return Way::Hunts;
             }
-            return Way::Short(steps::pass_on(s, k));
+            if count.next == 0 {
+                return Way::Marked(steps::pass_mark(s, steps::mark_at(s, tick)));
+            }
+            return Way::Short(steps::pass_on(s));
+        }
+        Judged::Counts(k) => {
+            return Way::Moved(steps::ignore(s, k, steps::mark_at(s, tick)));
         }
         Judged::Takes(t) => {
             return Way::Moved(steps::take(s, t, steps::mark_at(s, tick)));
@@ -152,16 +167,16 @@ fn given(s: Slave, p: &[u8], tick: u32, x: Numbers) -> Way
 {
     let board = s.board;
     let settings = s.settings;
+    let own = steps::mark_at(s, tick);
     match judging::judge_given(board, settings, p, x) {
+        Judged::Plain => {
+            return Way::Moved(steps::ignore(s, 0, own));
+        }
         Judged::Counts(k) => {
-            let count = s.count;
-            if steps::on_mark(count) {
-                return Way::Moved(steps::pass_mark(s, k, steps::mark_at(s, tick)));
-            }
-            return Way::Short(steps::pass_on(s, k));
+            return Way::Moved(steps::ignore(s, k, own));
         }
         Judged::Takes(t) => {
-            return Way::Moved(steps::take(s, t, steps::mark_at(s, tick)));
+            return Way::Moved(steps::take(s, t, own));
         }
     }
 }
@@ -206,43 +221,45 @@ pub fn numbers_way(s: Slave, p: &[u8], tick: u32, x: Numbers) -> Way
 }
 
 // The slave that a way leaves, and its reply.
-fn applied(s: Slave, w: Way) -> Stepped
+fn applied(mut s: Slave, w: Way) -> Stepped
     ensures { λ r. ⌜ steppedOf r ≡ wayOf s w ⌝ }
 {
     match w {
-        Way::Short(q) => {
-            let board = s.board;
-            let settings = s.settings;
-            let waiting = s.waiting;
-            let answer = q.answer;
+        Way::Hunts => {
             return Stepped {
-                slave: Slave {
-                    board: board,
-                    settings: settings,
-                    count: Count {
-                        phase: s.count.phase,
-                        next: q.next,
-                        index: s.count.index,
-                    },
-                    waiting: waiting,
-                },
-                answer: answer,
+                slave: s,
+                answer: Answer::Counted(steps::unheard(0)),
+            };
+        }
+        Way::Short(q) => {
+            let report = q.report;
+            s.count.next = q.next;
+            return Stepped {
+                slave: s,
+                answer: Answer::Counted(report),
+            };
+        }
+        Way::Marked(m) => {
+            let count = m.count;
+            let report = m.report;
+            s.count = count;
+            s.waiting = state::nothing_waiting();
+            return Stepped {
+                slave: s,
+                answer: Answer::Counted(report),
             };
         }
         Way::Moved(m) => {
-            let board = s.board;
             let settings = m.settings;
             let count = m.count;
             let waiting = m.waiting;
-            let answer = m.answer;
+            let report = m.report;
+            s.settings = settings;
+            s.count = count;
+            s.waiting = waiting;
             return Stepped {
-                slave: Slave {
-                    board: board,
-                    settings: settings,
-                    count: count,
-                    waiting: waiting,
-                },
-                answer: answer,
+                slave: s,
+                answer: Answer::Counted(report),
             };
         }
         Way::Refused(k) => {

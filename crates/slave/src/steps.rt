@@ -1,7 +1,7 @@
 // The steps of a sound slave on a packet that was judged.
-use crate::Answer;
 use crate::Counted;
 use crate::MarkPart;
+use crate::Marked;
 use crate::Maybe;
 use crate::Moved;
 use crate::NoticePart;
@@ -13,16 +13,15 @@ use state::Slave;
 use state::Waiting;
 ghost use mathlib.Core.Path.{_≡_};
 ghost use mathlib.Core.Bool.{cond};
-ghost use mathlib.Core.Bool.{true, false};
+ghost use mathlib.Core.Bool.{true};
 ghost use Prim.Native.Nat.{ℕ, _<_, _≤_};
 ghost use lib.Dec.{eqb};
 ghost use Rattle.cadence.specs.Label.{nextLabel};
-ghost use Rattle.wire.specs.Reply.{given};
 ghost use Rattle.state.specs.Sound.{sound};
-ghost use Rattle.slave.specs.Answer.{optionOf, noticeOf, markOf, answerOf, untimed, unmarked};
-ghost use Rattle.slave.specs.Step.{raised, placeOf, lockedAt, onMark, markAt, indexAt, countedReport, noticeBy, counted, agrees, indexBefore, indexAfter, turns, noticeTaken, took};
+ghost use Rattle.slave.specs.Answer.{optionOf, noticeOf, markOf, reportOf, untimed, unmarked};
+ghost use Rattle.slave.specs.Step.{raised, placeOf, lockedAt, onMark, markAt, indexAt, keptAt, countedReport, unheardReport, noticeBy, counted, agrees, indexBefore, indexAfter, turns, noticeTaken, took};
 ghost use Rattle.slave.specs.Ready.{Ready};
-ghost use Rattle.slave.specs.Ways.{shortOf, movedOf};
+ghost use Rattle.slave.specs.Ways.{shortOf, markedOf, movedOf};
 
 // The next mark's index where it is not known.
 const UNKNOWN: u8 = 255;
@@ -116,60 +115,97 @@ pub(crate) fn mark_at(s: Slave, tick: u32) -> MarkPart
     MarkPart::Untimed
 }
 
-// The answer to a counted packet of which no notice is taken.
-fn counted(label: u16, index: u8, k: u8, mark: MarkPart) -> Answer
-    ensures { λ r. ⌜ answerOf r ≡ given (countedReport label index (noticeBy k) (markOf mark)) ⌝ }
+// The report on a counted packet of which no notice is taken.
+fn counted(label: u16, index: u8, k: u8, mark: MarkPart) -> Counted
+    ensures { λ r. ⌜ reportOf r ≡ countedReport label index (noticeBy k) (markOf mark) ⌝ }
 {
-    Answer::Counted(Counted {
+    Counted {
         label: Maybe::Just(label),
         notice: notice_by(k),
         turn: false,
         mark: mark,
         place: place_of(index, label),
-    })
+    }
 }
 
-// A packet of which no notice is taken and which is no mark: the count moves on, where there is one.
-pub(crate) fn pass_on(s: Slave, k: u8) -> Short
-    requires { ⌜ (sound s ≡ true) × (onMark (s .count) ≡ false) ⌝ }
-    ensures { λ r. ⌜ ((tick : ℕ) → shortOf s r ≡ counted s k tick) ⌝ }
+// The report of a hunting slave: it has no label, no mark and no place.
+pub(crate) fn unheard(k: u8) -> Counted
+    ensures { λ r. ⌜ reportOf r ≡ unheardReport (noticeBy k) ⌝ }
+{
+    Counted {
+        label: Maybe::Nothing,
+        notice: notice_by(k),
+        turn: false,
+        mark: MarkPart::Unmarked,
+        place: Maybe::Nothing,
+    }
+}
+
+// A locked slave's packet without a notice, between the marks: the label moves on.
+pub(crate) fn pass_on(s: Slave) -> Short
+    requires { ⌜ (sound s ≡ true) × (s .count .phase ≡ 2) × (s .count .next ≡ 0 → ⊥) ⌝ }
+    ensures { λ r. ⌜ ((tick : ℕ) → shortOf s r ≡ counted s 0 tick) ⌝ }
 {
     let count = s.count;
     let board = s.board;
     let label = count.next;
-    if count.phase == 2 {
-        return Short {
-            next: next_label(board.n, label),
-            answer: counted(label, count.index, k, MarkPart::Unmarked),
-        };
-    }
     Short {
-        next: label,
-        answer: Answer::Counted(Counted {
-            label: Maybe::Nothing,
-            notice: notice_by(k),
-            turn: false,
-            mark: MarkPart::Unmarked,
-            place: Maybe::Nothing,
-        }),
+        next: next_label(board.n, label),
+        report: counted(label, count.index, 0, MarkPart::Unmarked),
     }
 }
 
-// A mark of which no notice is taken: a waiting notice is released, and gone.
-pub(crate) fn pass_mark(s: Slave, k: u8, own: MarkPart) -> Moved
-    requires { ⌜ (sound s ≡ true) × (onMark (s .count) ≡ true) ⌝ }
+// A mark without a notice of its own: a waiting notice is released, and gone.
+pub(crate) fn pass_mark(s: Slave, own: MarkPart) -> Marked
+    requires { ⌜ (sound s ≡ true) × (s .count .phase ≡ 2) × (s .count .next ≡ 0) ⌝ }
+    ensures { λ r. ⌜ ((tick : ℕ) → markOf own ≡ markAt s tick → markedOf s r ≡ counted s 0 tick) ⌝ }
+{
+    let board = s.board;
+    let count = s.count;
+    let label = count.next;
+    let index = raised(count.index, 1);
+    Marked {
+        count: locked_at(next_label(board.n, label), index),
+        report: counted(label, index, 0, own),
+    }
+}
+
+// What is kept of a waiting notice: it goes with its mark.
+fn kept_at(s: Slave) -> Waiting
+    ensures { λ r. ⌜ r ≡ keptAt s ⌝ }
+{
+    let count = s.count;
+    let waiting = s.waiting;
+    if count.next == 0 {
+        return state::nothing_waiting();
+    }
+    waiting
+}
+
+// A packet whose notice a number of C ignores: it counts.
+pub(crate) fn ignore(s: Slave, k: u8, own: MarkPart) -> Moved
+    requires { ⌜ sound s ≡ true ⌝ }
     ensures { λ r. ⌜ ((tick : ℕ) → markOf own ≡ markAt s tick → movedOf s r ≡ counted s k tick) ⌝ }
 {
     let board = s.board;
     let settings = s.settings;
     let count = s.count;
+    let waiting = s.waiting;
+    if count.phase != 2 {
+        return Moved {
+            settings: settings,
+            count: count,
+            waiting: waiting,
+            report: unheard(k),
+        };
+    }
     let label = count.next;
-    let index = raised(count.index, 1);
+    let index = index_at(count);
     Moved {
         settings: settings,
         count: locked_at(next_label(board.n, label), index),
-        waiting: state::nothing_waiting(),
-        answer: counted(label, index, k, own),
+        waiting: kept_at(s),
+        report: counted(label, index, k, own),
     }
 }
 
@@ -270,12 +306,12 @@ pub(crate) fn take(s: Slave, t: Taken, own: MarkPart) -> Moved
             sts: t.sts,
             md: t.md,
         },
-        answer: Answer::Counted(Counted {
+        report: Counted {
             label: Maybe::Just(label),
             notice: notice_taken(count, label),
             turn: turned(before, t.index),
             mark: mark_taken(count, label, own),
             place: place_of(index, label),
-        }),
+        },
     }
 }
