@@ -119,55 +119,57 @@ pub extern "C" fn probe_mobile_place(i: u8, p: u16) -> u16
 
 // A packet by value; its answer is a numbers notice's.
 #[no_mangle]
-pub extern "C" fn probe_packet(s: Slave, p: &[u8], tick: u32) -> Step
+pub extern "C" fn probe_packet(mut s: Slave, p: &[u8], tick: u32) -> Step
     ensures { λ r. ⌜ r ≡ flatStep (packetOf s (now (p .entry)) tick) ⌝ }
 {
     match slave::way_of(s, p, tick) {
         Way::Short(q) => {
-            let board = s.board;
-            let settings = s.settings;
-            let waiting = s.waiting;
-            let answer = q.answer;
+            let report = q.report;
+            s.count.next = q.next;
             return Step {
-                slave: Slave {
-                    board: board,
-                    settings: settings,
-                    count: Count {
-                        phase: s.count.phase,
-                        next: q.next,
-                        index: s.count.index,
-                    },
-                    waiting: waiting,
-                },
-                reply: replies::reply_of(answer),
+                slave: s,
+                reply: replies::report_of(report),
+            };
+        }
+        Way::Hunts => {
+            return Step {
+                slave: s,
+                reply: replies::number_alone(0),
+            };
+        }
+        Way::Marked(m) => {
+            let count = m.count;
+            let report = m.report;
+            s.count = count;
+            s.waiting = state::nothing_waiting();
+            return Step {
+                slave: s,
+                reply: replies::report_of(report),
             };
         }
         Way::Moved(m) => {
-            let board = s.board;
             let settings = m.settings;
             let count = m.count;
             let waiting = m.waiting;
-            let answer = m.answer;
+            let report = m.report;
+            s.settings = settings;
+            s.count = count;
+            s.waiting = waiting;
             return Step {
-                slave: Slave {
-                    board: board,
-                    settings: settings,
-                    count: count,
-                    waiting: waiting,
-                },
-                reply: replies::reply_of(answer),
+                slave: s,
+                reply: replies::report_of(report),
             };
         }
         Way::Refused(k) => {
             return Step {
                 slave: s,
-                reply: replies::refused(k),
+                reply: replies::number_alone(k),
             };
         }
         Way::Cold => {
             return Step {
                 slave: state::cold_slave(),
-                reply: replies::refused(15),
+                reply: replies::number_alone(15),
             };
         }
     }

@@ -1,5 +1,4 @@
 // The replies of the calls as plain numbers, for C: what a reply has not is 0 or false.
-use slave::Answer;
 use slave::Counted;
 use slave::MarkPart;
 use slave::Maybe;
@@ -7,7 +6,7 @@ use slave::NoticePart;
 use slave::Outcome;
 ghost use mathlib.Core.Path.{_≡_};
 ghost use Rattle.wire.specs.Reply.{refused, numberOf};
-ghost use Rattle.slave.specs.Answer.{optionOf, noticeOf, markOf, reportOf, answerOf, outcomeOf};
+ghost use Rattle.slave.specs.Answer.{optionOf, noticeOf, markOf, reportOf, outcomeOf};
 ghost use Rattle.replies.specs.Flat.{isSome, valueOf, noticeKind, noticeNumber, noTimes, flatMark, flatReport, flatReply};
 
 // What a mark is released with, in the unit of its profile.
@@ -139,7 +138,8 @@ fn mark_of(m: MarkPart) -> Mark
     }
 }
 
-fn report_of(c: Counted) -> PacketReply
+// The report on a counted packet.
+pub fn report_of(c: Counted) -> PacketReply
     ensures { λ r. ⌜ r ≡ flatReport (reportOf c) ⌝ }
 {
     let label = c.label;
@@ -159,8 +159,8 @@ fn report_of(c: Counted) -> PacketReply
     }
 }
 
-// A call that is refused.
-pub fn refused(k: u8) -> PacketReply
+// A reply that has a number and nothing else: the number refuses the call; with 0 it is a hunting slave's, to a packet without a notice.
+pub fn number_alone(k: u8) -> PacketReply
     ensures { λ r. ⌜ r ≡ flatReply (refused k) ⌝ }
 {
     PacketReply {
@@ -173,16 +173,6 @@ pub fn refused(k: u8) -> PacketReply
         has_place: false,
         place: 0,
         mark: no_times(0, 0),
-    }
-}
-
-// A slave's answer as plain numbers.
-pub fn reply_of(a: Answer) -> PacketReply
-    ensures { λ r. ⌜ r ≡ flatReply (answerOf a) ⌝ }
-{
-    match a {
-        Answer::Counted(c) => report_of(c),
-        Answer::Refused(k) => refused(k),
     }
 }
 

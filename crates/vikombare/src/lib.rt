@@ -122,75 +122,85 @@ pub extern "C" fn vikombare_packet(s: &mut Slave, p: &[u8], tick: Tick) -> Packe
     match slave::way_of(*s, p, t) {
         Way::Short(q) => {
             s.count.next = q.next;
-            return replies::reply_of(q.answer);
+            return replies::report_of(q.report);
+        }
+        Way::Hunts => {
+            return replies::number_alone(0);
+        }
+        Way::Marked(m) => {
+            s.count = m.count;
+            s.waiting = state::nothing_waiting();
+            return replies::report_of(m.report);
         }
         Way::Moved(m) => {
             s.settings = m.settings;
             s.count = m.count;
             s.waiting = m.waiting;
-            return replies::reply_of(m.answer);
+            return replies::report_of(m.report);
         }
         Way::Refused(k) => {
-            return replies::refused(k);
+            return replies::number_alone(k);
         }
         Way::Cold => {
             *s = state::cold_slave();
-            return replies::refused(15);
+            return replies::number_alone(15);
         }
     }
 }
 
-// A packet that comes with a notice in numbers, profile 1. The slave is handed back, built anew from its parts.
+// A packet that comes with a notice in numbers, profile 1. The slave is handed back.
 #[no_mangle]
-pub extern "C" fn vikombare_numbers(s: Slave, p: &[u8], tick: Periods, x: Numbers) -> Step
+pub extern "C" fn vikombare_numbers(mut s: Slave, p: &[u8], tick: Periods, x: Numbers) -> Step
     ensures { λ r. ⌜ r ≡ flatStep (numbersOf s (now (p .entry)) (tick .0) x) ⌝ }
 {
     match slave::numbers_way(s, p, tick.0, x) {
         Way::Short(q) => {
-            let board = s.board;
-            let settings = s.settings;
-            let waiting = s.waiting;
-            let answer = q.answer;
+            let report = q.report;
+            s.count.next = q.next;
             return Step {
-                slave: Slave {
-                    board: board,
-                    settings: settings,
-                    count: Count {
-                        phase: s.count.phase,
-                        next: q.next,
-                        index: s.count.index,
-                    },
-                    waiting: waiting,
-                },
-                reply: replies::reply_of(answer),
+                slave: s,
+                reply: replies::report_of(report),
+            };
+        }
+        Way::Hunts => {
+            return Step {
+                slave: s,
+                reply: replies::number_alone(0),
+            };
+        }
+        Way::Marked(m) => {
+            let count = m.count;
+            let report = m.report;
+            s.count = count;
+            s.waiting = state::nothing_waiting();
+            return Step {
+                slave: s,
+                reply: replies::report_of(report),
             };
         }
         Way::Moved(m) => {
-            let board = s.board;
             let settings = m.settings;
             let count = m.count;
             let waiting = m.waiting;
-            let answer = m.answer;
+            let report = m.report;
+            s.settings = settings;
+            s.count = count;
+            s.waiting = waiting;
             return Step {
-                slave: Slave {
-                    board: board,
-                    settings: settings,
-                    count: count,
-                    waiting: waiting,
-                },
-                reply: replies::reply_of(answer),
+                slave: s,
+                reply: replies::report_of(report),
             };
         }
         Way::Refused(k) => {
             return Step {
                 slave: s,
-                reply: replies::refused(k),
+                reply: replies::number_alone(k),
             };
         }
         Way::Cold => {
             return Step {
                 slave: state::cold_slave(),
-                reply: replies::refused(15),
+                reply: replies::number_alone(15),
             };
         }
     }

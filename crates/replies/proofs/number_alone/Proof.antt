@@ -1,8 +1,8 @@
--- `replies::refused` meets its contract.
+-- `replies::number_alone` meets its contract.
 use borrow.Author.Needs.{needs}
 use mathlib.Core.Bool.{false}
-use Rattle.replies.proofs.refused.Statement.{statement}
-use Rattle.replies.proofs.refused.Tie as tie
+use Rattle.replies.proofs.number_alone.Statement.{statement}
+use Rattle.replies.proofs.number_alone.Tie as tie
 
 no-times-requires : tie.Need-no-times-requires
 no-times-requires c κs = search needs
@@ -22,5 +22,5 @@ returns c =
       mark = c .no-times .ensures i;
     }
 
-pub refused-spec : {M : Type 1} → statement M
-refused-spec = tie.close (tie.spec no-times-requires returns)
+pub number-alone-spec : {M : Type 1} → statement M
+number-alone-spec = tie.close (tie.spec no-times-requires returns)
