@@ -129,7 +129,7 @@ fn records(s: Slave, number: u64, input: &[u8], out: &mut [u8]) -> Piece
         let to = used + RECORD_LENGTH;
         let bytes = &input[used..to];
         let tick = wire::number32_at(bytes, 0);
-        let r = slave::packet(after, &bytes[TICK_LENGTH..], tick);
+        let r = by_value::packet(after, &bytes[TICK_LENGTH..], tick);
         let answer = r.answer;
         end = text::put_line(out, end, next, answer);
         after = r.slave;

@@ -3,12 +3,10 @@
 use addressing::Settings;
 use addressing::Walked;
 use cadence::LabelAnswer;
-use slave::Way;
-use state::Count;
+use replies::Step;
 use state::Slave;
 use times::Periods;
 use times::Steps;
-use vikombare::Step;
 ghost use mathlib.Core.Path.{_≡_};
 ghost use Rattle.wire.specs.Standards.{dvbSecond, a110Second};
 ghost use Rattle.check_value.specs.Register.{register};
@@ -18,7 +16,7 @@ ghost use Rattle.cadence.specs.Cadence.{admits};
 ghost use Rattle.cadence.specs.Label.{labelOf, inCadence};
 ghost use Rattle.cadence.specs.MobileFrame.{mobilePlace};
 ghost use Rattle.slave.specs.Calls.{packetOf};
-ghost use Rattle.vikombare.specs.Flat.{flatStep};
+ghost use Rattle.replies.specs.Flat.{flatStep};
 ghost use Rattle.probe.specs.Flat.{flatSettings, flatLabel};
 
 #[repr(C)]
@@ -119,58 +117,8 @@ pub extern "C" fn probe_mobile_place(i: u8, p: u16) -> u16
 
 // A packet by value; its answer is a numbers notice's.
 #[no_mangle]
-pub extern "C" fn probe_packet(mut s: Slave, p: &[u8], tick: u32) -> Step
+pub extern "C" fn probe_packet(s: Slave, p: &[u8], tick: u32) -> Step
     ensures { λ r. ⌜ r ≡ flatStep (packetOf s (now (p .entry)) tick) ⌝ }
 {
-    match slave::way_of(s, p, tick) {
-        Way::Short(q) => {
-            let report = q.report;
-            s.count.next = q.next;
-            return Step {
-                slave: s,
-                reply: replies::report_of(report),
-            };
-        }
-        Way::Hunts => {
-            return Step {
-                slave: s,
-                reply: replies::number_alone(0),
-            };
-        }
-        Way::Marked(m) => {
-            let count = m.count;
-            let report = m.report;
-            s.count = count;
-            s.waiting = state::nothing_waiting();
-            return Step {
-                slave: s,
-                reply: replies::report_of(report),
-            };
-        }
-        Way::Moved(m) => {
-            let settings = m.settings;
-            let count = m.count;
-            let waiting = m.waiting;
-            let report = m.report;
-            s.settings = settings;
-            s.count = count;
-            s.waiting = waiting;
-            return Step {
-                slave: s,
-                reply: replies::report_of(report),
-            };
-        }
-        Way::Refused(k) => {
-            return Step {
-                slave: s,
-                reply: replies::number_alone(k),
-            };
-        }
-        Way::Cold => {
-            return Step {
-                slave: state::cold_slave(),
-                reply: replies::number_alone(15),
-            };
-        }
-    }
+    replies::handed_back(s, slave::way_of(s, p, tick))
 }

@@ -5,10 +5,12 @@ use mathlib.Core.Option.{Option, none, some}
 use lib.IntN.{pos}
 use Rattle.wire.specs.Reply.{Reply, refused, given}
 use Rattle.times.specs.Release.{Times, late, released}
-use Rattle.slave.specs.Answer.{Notice, absent, taken, slip, ignored, Mark, unmarked, untimed, due, markNumber, Report}
+use Rattle.state.specs.declared.Slave.{Slave}
+use Rattle.slave.specs.Answer.{Notice, absent, taken, slip, ignored, Mark, unmarked, untimed, due, markNumber, Report, Result}
 use Rattle.replies.specs.declared.MarkTimes.{MarkTimes}
 use Rattle.replies.specs.declared.Mark as CMark
 use Rattle.replies.specs.declared.PacketReply.{PacketReply}
+use Rattle.replies.specs.declared.Step.{Step}
 
 abbrev pub isSome : Option ℕ → Bool
 isSome none = false
@@ -70,3 +72,10 @@ abbrev pub flatReply : Reply Report → PacketReply
 flatReply (refused k) =
     record { number = k; «has_label» = false; label = 0; notice = 0; ignored = 0; turn = false; «has_place» = false; place = 0; mark = flatMark unmarked }
 flatReply (given r) = flatReport r
+
+-- what a packet or a numbers notice leaves, with its reply
+abbrev pub flatLeft : Slave → PacketReply → Step
+flatLeft s r = record { slave = s; reply = r }
+
+abbrev pub flatStep : Result Report → Step
+flatStep r = flatLeft (r .slave) (flatReply (r .reply))

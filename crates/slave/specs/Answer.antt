@@ -17,7 +17,6 @@ use Rattle.slave.specs.declared.Answer as Answer′
 use Rattle.slave.specs.declared.Answer.the-variants as answer
 use Rattle.slave.specs.declared.Outcome as Outcome′
 use Rattle.slave.specs.declared.Outcome.the-variants as outcome
-use Rattle.slave.specs.declared.Stepped.{Stepped}
 use Rattle.slave.specs.declared.Shifted.{Shifted}
 use Rattle.slave.specs.declared.PlainTimes.{PlainTimes}
 
@@ -90,9 +89,6 @@ answerOf (answer.Counted c) = given (reportOf c)
 abbrev pub outcomeOf : Outcome′.Outcome → Reply (Unit {0})
 outcomeOf outcome.Done = given tt
 outcomeOf (outcome.Refused k) = refused k
-
-abbrev pub steppedOf : Stepped → Result Report
-steppedOf r = left (r .slave) (answerOf (r .answer))
 
 abbrev pub shiftedOf : Shifted → Result (Unit {0})
 shiftedOf r = left (r .slave) (outcomeOf (r .outcome))

@@ -9,7 +9,7 @@ use state::Waiting;
 use times::A110Times;
 use times::DvbTimes;
 ghost use mathlib.Core.Path.{_≡_};
-ghost use Rattle.slave.specs.Answer.{steppedOf, shiftedOf};
+ghost use Rattle.slave.specs.Answer.{shiftedOf};
 ghost use Rattle.slave.specs.Calls.{startOf, packetOf, numbersOf, gapOf};
 ghost use Rattle.judging.specs.Judge.{judgeArrived, judgeGiven};
 ghost use Rattle.slave.specs.Step.{stepOf};
@@ -53,12 +53,6 @@ pub struct Counted {
 pub enum Answer {
     Refused(u8),
     Counted(Counted),
-}
-
-// What a packet or a numbers notice leaves and replies.
-pub struct Stepped {
-    pub slave: Slave,
-    pub answer: Answer,
 }
 
 // The reply to a start or a gap.
@@ -218,77 +212,6 @@ pub fn numbers_way(s: Slave, p: &[u8], tick: u32, x: Numbers) -> Way
         return Way::Refused(20);
     }
     given(s, p, tick, x)
-}
-
-// The slave that a way leaves, and its reply.
-fn applied(mut s: Slave, w: Way) -> Stepped
-    ensures { λ r. ⌜ steppedOf r ≡ wayOf s w ⌝ }
-{
-    match w {
-        Way::Hunts => {
-            return Stepped {
-                slave: s,
-                answer: Answer::Counted(steps::unheard(0)),
-            };
-        }
-        Way::Short(q) => {
-            let report = q.report;
-            s.count.next = q.next;
-            return Stepped {
-                slave: s,
-                answer: Answer::Counted(report),
-            };
-        }
-        Way::Marked(m) => {
-            let count = m.count;
-            let report = m.report;
-            s.count = count;
-            s.waiting = state::nothing_waiting();
-            return Stepped {
-                slave: s,
-                answer: Answer::Counted(report),
-            };
-        }
-        Way::Moved(m) => {
-            let settings = m.settings;
-            let count = m.count;
-            let waiting = m.waiting;
-            let report = m.report;
-            s.settings = settings;
-            s.count = count;
-            s.waiting = waiting;
-            return Stepped {
-                slave: s,
-                answer: Answer::Counted(report),
-            };
-        }
-        Way::Refused(k) => {
-            return Stepped {
-                slave: s,
-                answer: Answer::Refused(k),
-            };
-        }
-        Way::Cold => {
-            return Stepped {
-                slave: state::cold_slave(),
-                answer: Answer::Refused(15),
-            };
-        }
-    }
-}
-
-// A packet with its arrival tick.
-pub fn packet(s: Slave, p: &[u8], tick: u32) -> Stepped
-    ensures { λ r. ⌜ steppedOf r ≡ packetOf s (now (p .entry)) tick ⌝ }
-{
-    applied(s, way_of(s, p, tick))
-}
-
-// A numbers notice with its packet and arrival tick.
-pub fn numbers_notice(s: Slave, p: &[u8], tick: u32, x: Numbers) -> Stepped
-    ensures { λ r. ⌜ steppedOf r ≡ numbersOf s (now (p .entry)) tick x ⌝ }
-{
-    applied(s, numbers_way(s, p, tick, x))
 }
 
 // k packets are known to be missing.

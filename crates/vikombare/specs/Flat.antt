@@ -14,7 +14,6 @@ use Rattle.replies.specs.Flat.{flatReply}
 use Rattle.replies.specs.declared.PacketReply.{PacketReply}
 use Rattle.vikombare.specs.declared.Tick.{Tick}
 use Rattle.vikombare.specs.declared.Change.{Change}
-use Rattle.vikombare.specs.declared.Step.{Step}
 use Rattle.vikombare.specs.declared.NoticeRead.{NoticeRead}
 
 -- no tick: more than the units of any second
@@ -35,13 +34,6 @@ a110Board n site tad = record { profile = 1; n = n; site = site; tad = tad .0 }
 -- what a start, a gap or a resume leaves, with the number of its reply
 abbrev pub flatChange : Result (Unit {0}) → Change
 flatChange r = record { slave = r .slave; number = numberOf (r .reply) }
-
--- what a packet or a numbers notice leaves, with its reply
-abbrev pub flatLeft : Slave → PacketReply → Step
-flatLeft s r = record { slave = s; reply = r }
-
-abbrev pub flatStep : Result Report → Step
-flatStep r = flatLeft (r .slave) (flatReply (r .reply))
 
 -- what a save or a write leaves: its number, and the bytes of the buffer
 pub record Filled : Type 0 where

@@ -4,10 +4,10 @@ use judging::Numbers;
 use notice::Notice;
 use notice::Reading;
 use replies::PacketReply;
+use replies::Step;
 use slave::Shifted;
 use slave::Way;
 use state::Board;
-use state::Count;
 use state::Slave;
 use times::Periods;
 use times::Steps;
@@ -20,7 +20,8 @@ ghost use Rattle.writer.specs.Writer.{writeOf};
 ghost use Rattle.slave.specs.Answer.{shiftedOf};
 ghost use Rattle.slave.specs.Calls.{startOf, packetOf, numbersOf, gapOf};
 ghost use Rattle.saved.specs.Block.{saveOf, resumeOf};
-ghost use Rattle.vikombare.specs.Flat.{tickOn, flatChange, flatLeft, flatStep, dvbBoard, a110Board, filledWith, flatOutput, flatNotice};
+ghost use Rattle.replies.specs.Flat.{flatLeft, flatStep};
+ghost use Rattle.vikombare.specs.Flat.{tickOn, flatChange, dvbBoard, a110Board, filledWith, flatOutput, flatNotice};
 
 // An arrival tick with its clock: profile 0 counts steps of 100 ns, profile 1 bit periods.
 #[repr(C)]
@@ -34,13 +35,6 @@ pub struct Tick {
 pub struct Change {
     pub slave: Slave,
     pub number: u8,
-}
-
-// What a numbers notice leaves and replies.
-#[repr(C)]
-pub struct Step {
-    pub slave: Slave,
-    pub reply: PacketReply,
 }
 
 // A notice that was read: its fields, and the length of its addressing field, which begins at byte 21 of the packet.
@@ -150,60 +144,10 @@ pub extern "C" fn vikombare_packet(s: &mut Slave, p: &[u8], tick: Tick) -> Packe
 
 // A packet that comes with a notice in numbers, profile 1. The slave is handed back.
 #[no_mangle]
-pub extern "C" fn vikombare_numbers(mut s: Slave, p: &[u8], tick: Periods, x: Numbers) -> Step
+pub extern "C" fn vikombare_numbers(s: Slave, p: &[u8], tick: Periods, x: Numbers) -> Step
     ensures { λ r. ⌜ r ≡ flatStep (numbersOf s (now (p .entry)) (tick .0) x) ⌝ }
 {
-    match slave::numbers_way(s, p, tick.0, x) {
-        Way::Short(q) => {
-            let report = q.report;
-            s.count.next = q.next;
-            return Step {
-                slave: s,
-                reply: replies::report_of(report),
-            };
-        }
-        Way::Hunts => {
-            return Step {
-                slave: s,
-                reply: replies::number_alone(0),
-            };
-        }
-        Way::Marked(m) => {
-            let count = m.count;
-            let report = m.report;
-            s.count = count;
-            s.waiting = state::nothing_waiting();
-            return Step {
-                slave: s,
-                reply: replies::report_of(report),
-            };
-        }
-        Way::Moved(m) => {
-            let settings = m.settings;
-            let count = m.count;
-            let waiting = m.waiting;
-            let report = m.report;
-            s.settings = settings;
-            s.count = count;
-            s.waiting = waiting;
-            return Step {
-                slave: s,
-                reply: replies::report_of(report),
-            };
-        }
-        Way::Refused(k) => {
-            return Step {
-                slave: s,
-                reply: replies::number_alone(k),
-            };
-        }
-        Way::Cold => {
-            return Step {
-                slave: state::cold_slave(),
-                reply: replies::number_alone(15),
-            };
-        }
-    }
+    replies::handed_back(s, slave::numbers_way(s, p, tick.0, x))
 }
 
 // A gap of k packets.

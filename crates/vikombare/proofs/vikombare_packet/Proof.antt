@@ -50,8 +50,8 @@ use Rattle.state.specs.Slave.{cold, nothing as none-waits}
 use Rattle.slave.specs.Answer.{reportOf}
 use Rattle.slave.specs.Calls.{packetOf}
 use Rattle.slave.specs.Ways.{wayOf}
-use Rattle.replies.specs.Flat.{flatReport, flatReply}
-use Rattle.vikombare.specs.Flat.{tickOn, flatLeft, flatStep}
+use Rattle.replies.specs.Flat.{flatReport, flatReply, flatLeft, flatStep}
+use Rattle.vikombare.specs.Flat.{tickOn}
 use Rattle.state.specs.declared.Count.{Count}
 use Rattle.state.specs.declared.Waiting.{Waiting}
 use Rattle.state.specs.declared.Slave.{Slave}

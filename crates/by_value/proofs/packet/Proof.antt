@@ -1,9 +1,9 @@
--- `slave::packet` meets its contract.
+-- `by_value::packet` meets its contract.
 use borrow.Author.Needs.{needs}
 use mathlib.Core.Path.{_≡_, refl, sym, ap, _∙_}
 use Rattle.slave.specs.Ways.{wayOf}
-use Rattle.slave.proofs.packet.Statement.{statement}
-use Rattle.slave.proofs.packet.Tie as tie
+use Rattle.by_value.proofs.packet.Statement.{statement}
+use Rattle.by_value.proofs.packet.Tie as tie
 
 way-of-requires : tie.Need-way-of-requires
 way-of-requires c κs = search needs

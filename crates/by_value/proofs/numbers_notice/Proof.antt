@@ -1,8 +1,8 @@
--- `slave::numbers_notice` meets its contract.
+-- `by_value::numbers_notice` meets its contract.
 use borrow.Author.Needs.{needs}
 use mathlib.Core.Path.{_≡_, refl, sym, ap, _∙_}
-use Rattle.slave.proofs.numbers_notice.Statement.{statement}
-use Rattle.slave.proofs.numbers_notice.Tie as tie
+use Rattle.by_value.proofs.numbers_notice.Statement.{statement}
+use Rattle.by_value.proofs.numbers_notice.Tie as tie
 
 numbers-way-requires : tie.Need-numbers-way-requires
 numbers-way-requires c κs = search needs

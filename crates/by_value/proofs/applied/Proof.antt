@@ -1,14 +1,14 @@
--- `slave::applied` meets its contract.
+-- `by_value::applied` meets its contract.
 use borrow.Author.Needs.{needs}
 use mathlib.Core.Path.{_≡_, refl, sym, ap, _∙_}
 use Rattle.state.specs.declared.Slave.{Slave}
 use Rattle.wire.specs.Reply.{refused, given}
 use Rattle.slave.specs.Answer.{reportOf, Report, left}
 use Rattle.state.specs.declared.Waiting.{Waiting}
 use Rattle.slave.specs.Step.{movedTo}
 use Rattle.slave.specs.Ways.{wayOf}
-use Rattle.slave.proofs.applied.Statement.{statement}
-use Rattle.slave.proofs.applied.Tie as tie
+use Rattle.by_value.proofs.applied.Statement.{statement}
+use Rattle.by_value.proofs.applied.Tie as tie
 
 enum-told : tie.Need-enum-told
 enum-told c = search needs

@@ -1,0 +1,2 @@
+-- The definitions of crate `by_value`.
+pub mod Stepped

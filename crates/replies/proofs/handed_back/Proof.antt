@@ -1,0 +1,104 @@
+-- `replies::handed_back` meets its contract: a line for each way.
+use borrow.Author.Needs.{needs}
+use mathlib.Core.Path.{_≡_, sym, ap, ap₂, _∙_}
+use Rattle.state.specs.declared.Slave.{Slave}
+use Rattle.state.specs.declared.Waiting.{Waiting}
+use Rattle.slave.specs.Step.{movedTo}
+use Rattle.slave.specs.Ways.{wayOf}
+use Rattle.slave.specs.declared.Way.{Way}
+use Rattle.replies.specs.Flat.{flatLeft, flatStep}
+use Rattle.replies.specs.declared.PacketReply.{PacketReply}
+use Rattle.replies.proofs.handed_back.Statement.{statement}
+use Rattle.replies.proofs.handed_back.Tie as tie
+
+-- what is known of the way
+told : (s : Slave) {w v : Way} → w ≡ v → flatStep (wayOf s v) ≡ flatStep (wayOf s w)
+told s e = ap (λ (x : Way). flatStep (wayOf s x)) (sym e)
+
+enum-known-w : tie.Need-enum-known-w
+enum-known-w c = search needs
+
+report-of-requires : tie.Need-report-of-requires
+report-of-requires c κs = search needs
+
+returns : tie.Need-returns
+returns c = ap (flatLeft _) (c .report-of .ensures) ∙ told (c .before .before .before .before .before .before .args .s) (c .before .before .before .before .w .given .1)
+
+enum-told : tie.Need-enum-told
+enum-told c = search needs
+
+number-alone-requires : tie.Need-number-alone-requires
+number-alone-requires c κs = search needs
+
+returns-2 : tie.Need-returns-2
+returns-2 c = ap (flatLeft _) (c .number-alone .ensures) ∙ told (c .before .before .before .args .s) (c .before .enum-told .given .1)
+
+enum-known-w-2 : tie.Need-enum-known-w-2
+enum-known-w-2 c = search needs
+
+nothing-waiting-requires : tie.Need-nothing-waiting-requires
+nothing-waiting-requires c κs = search needs
+
+report-of-requires-2 : tie.Need-report-of-requires-2
+report-of-requires-2 c κs = search needs
+
+returns-3 : tie.Need-returns-3
+returns-3 c =
+    let s = c .before .before .before .before .before .before .before .args .s in
+    let m = c .before .before .before .before .before .w2 .given in
+    ap₂ (λ (x : Waiting) (r : PacketReply). flatLeft (movedTo s (s .settings) (m .0 .0 .count) x) r) (c .before .nothing-waiting .ensures) (c .report-of2 .ensures) ∙ told s (m .1)
+
+enum-known-w-3 : tie.Need-enum-known-w-3
+enum-known-w-3 c = search needs
+
+report-of-requires-3 : tie.Need-report-of-requires-3
+report-of-requires-3 c κs = search needs
+
+returns-4 : tie.Need-returns-4
+returns-4 c = ap (flatLeft _) (c .report-of3 .ensures) ∙ told (c .before .before .before .before .before .before .before .before .args .s) (c .before .before .before .before .before .before .w3 .given .1)
+
+enum-known-w-4 : tie.Need-enum-known-w-4
+enum-known-w-4 c = search needs
+
+number-alone-requires-2 : tie.Need-number-alone-requires-2
+number-alone-requires-2 c κs = search needs
+
+returns-5 : tie.Need-returns-5
+returns-5 c = ap (flatLeft _) (c .number-alone2 .ensures) ∙ told (c .before .before .before .before .args .s) (c .before .before .w4 .given .1)
+
+enum-told-2 : tie.Need-enum-told-2
+enum-told-2 c = search needs
+
+cold-slave-requires : tie.Need-cold-slave-requires
+cold-slave-requires c κs = search needs
+
+number-alone-requires-3 : tie.Need-number-alone-requires-3
+number-alone-requires-3 c κs = search needs
+
+returns-6 : tie.Need-returns-6
+returns-6 c = ap₂ flatLeft (c .before .cold-slave .ensures) (c .number-alone3 .ensures) ∙ told (c .before .before .before .before .args .s) (c .before .before .enum-told2 .given .1)
+
+pub handed-back-spec : {M : Type 1} → statement M
+handed-back-spec =
+    tie.close
+    (tie.spec
+    enum-known-w
+    report-of-requires
+    returns
+    enum-told
+    number-alone-requires
+    returns-2
+    enum-known-w-2
+    nothing-waiting-requires
+    report-of-requires-2
+    returns-3
+    enum-known-w-3
+    report-of-requires-3
+    returns-4
+    enum-known-w-4
+    number-alone-requires-2
+    returns-5
+    enum-told-2
+    cold-slave-requires
+    number-alone-requires-3
+    returns-6)
