@@ -1,5 +1,6 @@
-// A packet and a numbers notice by value: the slave goes in, and comes back with the reply (document 01, "Steps of a slave").
+// A packet and a numbers notice by value: the slave goes in, and comes back with the reply, as the slave's answer or as plain numbers for C.
 use judging::Numbers;
+use replies::Step;
 use slave::Answer;
 use slave::Counted;
 use slave::MarkPart;
@@ -12,6 +13,7 @@ ghost use Rattle.slave.specs.Answer.{absent, reportOf};
 ghost use Rattle.slave.specs.Step.{unheardReport};
 ghost use Rattle.slave.specs.Calls.{packetOf, numbersOf};
 ghost use Rattle.slave.specs.Ways.{wayOf};
+ghost use Rattle.replies.specs.Flat.{flatStep};
 ghost use Rattle.by_value.specs.Stepped.{steppedOf};
 
 // What a packet or a numbers notice leaves and replies.
@@ -102,4 +104,118 @@ pub fn numbers_notice(s: Slave, p: &[u8], tick: u32, x: Numbers) -> Stepped
     ensures { λ r. ⌜ steppedOf r ≡ numbersOf s (now (p .entry)) tick x ⌝ }
 {
     applied(s, slave::numbers_way(s, p, tick, x))
+}
+
+// A packet, with the reply as plain numbers. It has its own match, so that the compiler keeps the way out of memory.
+pub fn packet_step(mut s: Slave, p: &[u8], tick: u32) -> Step
+    ensures { λ r. ⌜ r ≡ flatStep (packetOf s (now (p .entry)) tick) ⌝ }
+{
+    match slave::way_of(s, p, tick) {
+        Way::Short(q) => {
+            let report = q.report;
+            s.count.next = q.next;
+            return Step {
+                slave: s,
+                reply: replies::report_of(report),
+            };
+        }
+        Way::Hunts => {
+            return Step {
+                slave: s,
+                reply: replies::number_alone(0),
+            };
+        }
+        Way::Marked(m) => {
+            let count = m.count;
+            let report = m.report;
+            s.count = count;
+            s.waiting = state::nothing_waiting();
+            return Step {
+                slave: s,
+                reply: replies::report_of(report),
+            };
+        }
+        Way::Moved(m) => {
+            let settings = m.settings;
+            let count = m.count;
+            let waiting = m.waiting;
+            let report = m.report;
+            s.settings = settings;
+            s.count = count;
+            s.waiting = waiting;
+            return Step {
+                slave: s,
+                reply: replies::report_of(report),
+            };
+        }
+        Way::Refused(k) => {
+            return Step {
+                slave: s,
+                reply: replies::number_alone(k),
+            };
+        }
+        Way::Cold => {
+            return Step {
+                slave: state::cold_slave(),
+                reply: replies::number_alone(15),
+            };
+        }
+    }
+}
+
+// A numbers notice, with the reply as plain numbers.
+pub fn numbers_step(mut s: Slave, p: &[u8], tick: u32, x: Numbers) -> Step
+    ensures { λ r. ⌜ r ≡ flatStep (numbersOf s (now (p .entry)) tick x) ⌝ }
+{
+    match slave::numbers_way(s, p, tick, x) {
+        Way::Short(q) => {
+            let report = q.report;
+            s.count.next = q.next;
+            return Step {
+                slave: s,
+                reply: replies::report_of(report),
+            };
+        }
+        Way::Hunts => {
+            return Step {
+                slave: s,
+                reply: replies::number_alone(0),
+            };
+        }
+        Way::Marked(m) => {
+            let count = m.count;
+            let report = m.report;
+            s.count = count;
+            s.waiting = state::nothing_waiting();
+            return Step {
+                slave: s,
+                reply: replies::report_of(report),
+            };
+        }
+        Way::Moved(m) => {
+            let settings = m.settings;
+            let count = m.count;
+            let waiting = m.waiting;
+            let report = m.report;
+            s.settings = settings;
+            s.count = count;
+            s.waiting = waiting;
+            return Step {
+                slave: s,
+                reply: replies::report_of(report),
+            };
+        }
+        Way::Refused(k) => {
+            return Step {
+                slave: s,
+                reply: replies::number_alone(k),
+            };
+        }
+        Way::Cold => {
+            return Step {
+                slave: state::cold_slave(),
+                reply: replies::number_alone(15),
+            };
+        }
+    }
 }

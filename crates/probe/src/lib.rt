@@ -120,5 +120,5 @@ pub extern "C" fn probe_mobile_place(i: u8, p: u16) -> u16
 pub extern "C" fn probe_packet(s: Slave, p: &[u8], tick: u32) -> Step
     ensures { λ r. ⌜ r ≡ flatStep (packetOf s (now (p .entry)) tick) ⌝ }
 {
-    replies::handed_back(s, slave::way_of(s, p, tick))
+    by_value::packet_step(s, p, tick)
 }

@@ -4,13 +4,11 @@ use slave::MarkPart;
 use slave::Maybe;
 use slave::NoticePart;
 use slave::Outcome;
-use slave::Way;
 use state::Slave;
 ghost use mathlib.Core.Path.{_≡_};
 ghost use Rattle.wire.specs.Reply.{refused, numberOf};
 ghost use Rattle.slave.specs.Answer.{optionOf, noticeOf, markOf, reportOf, outcomeOf};
-ghost use Rattle.slave.specs.Ways.{wayOf};
-ghost use Rattle.replies.specs.Flat.{isSome, valueOf, noticeKind, noticeNumber, noTimes, flatMark, flatReport, flatReply, flatStep};
+ghost use Rattle.replies.specs.Flat.{isSome, valueOf, noticeKind, noticeNumber, noTimes, flatMark, flatReport, flatReply};
 
 // What a mark is released with, in the unit of its profile.
 #[repr(C)]
@@ -183,63 +181,6 @@ pub fn number_alone(k: u8) -> PacketReply
         has_place: false,
         place: 0,
         mark: no_times(0, 0),
-    }
-}
-
-// What a way leaves and replies, by value.
-pub fn handed_back(mut s: Slave, w: Way) -> Step
-    ensures { λ r. ⌜ r ≡ flatStep (wayOf s w) ⌝ }
-{
-    match w {
-        Way::Short(q) => {
-            let report = q.report;
-            s.count.next = q.next;
-            return Step {
-                slave: s,
-                reply: report_of(report),
-            };
-        }
-        Way::Hunts => {
-            return Step {
-                slave: s,
-                reply: number_alone(0),
-            };
-        }
-        Way::Marked(m) => {
-            let count = m.count;
-            let report = m.report;
-            s.count = count;
-            s.waiting = state::nothing_waiting();
-            return Step {
-                slave: s,
-                reply: report_of(report),
-            };
-        }
-        Way::Moved(m) => {
-            let settings = m.settings;
-            let count = m.count;
-            let waiting = m.waiting;
-            let report = m.report;
-            s.settings = settings;
-            s.count = count;
-            s.waiting = waiting;
-            return Step {
-                slave: s,
-                reply: report_of(report),
-            };
-        }
-        Way::Refused(k) => {
-            return Step {
-                slave: s,
-                reply: number_alone(k),
-            };
-        }
-        Way::Cold => {
-            return Step {
-                slave: state::cold_slave(),
-                reply: number_alone(15),
-            };
-        }
     }
 }
 

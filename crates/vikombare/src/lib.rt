@@ -147,7 +147,7 @@ pub extern "C" fn vikombare_packet(s: &mut Slave, p: &[u8], tick: Tick) -> Packe
 pub extern "C" fn vikombare_numbers(s: Slave, p: &[u8], tick: Periods, x: Numbers) -> Step
     ensures { λ r. ⌜ r ≡ flatStep (numbersOf s (now (p .entry)) (tick .0) x) ⌝ }
 {
-    replies::handed_back(s, slave::numbers_way(s, p, tick.0, x))
+    by_value::numbers_step(s, p, tick.0, x)
 }
 
 // A gap of k packets.
