@@ -24,7 +24,7 @@ build() {
 # step NAME COMMAND...: the last line of what the command prints, or all of it if it fails. target/tests/NAME.log has it whole.
 step() {
     log=$out/$1.log
-    say "tests: $1"
+    say "tests/${0##*/}: $1"
     shift
     if "$@" >"$log" 2>&1; then
         tail -n 1 "$log"

@@ -26,7 +26,7 @@ reached() {
 # proving WORDS...: runs rt WORDS..., prints what it prints and ends as it ends. Each crate that is proved now gets a line of progress; one that was
 # proved before is counted alone.
 proving() {
-    say "rt $*: $(reached "${2:-}") crates are proved first, unless they were before; from nothing this takes minutes"
+    say "rt $*: $(reached "${2:-}") crates; those that are not proved yet are proved now, which takes minutes from nothing"
     (rt "$@" 2>&1 && echo "proving ended 0" || echo "proving ended $?") | (
         all=$(reached "${2:-}") at=0
         while IFS= read -r line; do
