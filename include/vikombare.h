@@ -22,10 +22,11 @@
  * SETTING OUT AND COMING BACK
  * A call that answers 15 leaves the cold slave, which answers 15 to every packet until a start or a resume gives another: look for
  * VIKOMBARE_REFUSED_COLD in each reply, and start again.
- * A warm boot resumes at the label that was saved. Tell the packets that passed since, with vikombare_gap, before the next packet. Untold, they leave the
- * count behind by as many: packets get wrong labels, and a wrong packet can be taken for the mark and released with the waiting notice's time. The next
- * notice is then a slip and sets the count right. If a whole number of cadences went untold, no slip shows it: labels are right, but the waiting notice's
- * time goes to a later mark than its own, and in profile 1 the index is behind until a notice gives it.
+ * A warm boot resumes at the label that was saved. Tell the packets that passed since, with vikombare_gap, before the next packet (more than 65535 in
+ * several gaps). Untold, they leave the count behind by as many: packets get wrong labels, and a wrong packet can be taken for the mark and released
+ * with the waiting notice's time. The next notice is then a slip and sets the count right. If a whole number of cadences went untold, no slip shows
+ * it: labels are right, but the waiting notice's time goes to a later mark than its own, and in profile 1 the index is behind until a notice gives
+ * it.
  * Where the number of packets that passed is not known, tell a gap of n. It drops the waiting notice, so that no mark is released before the next notice
  * is taken, and keeps the offset delay, frequency and power; until that notice do not rely on labels or untimed marks, nor on places until a notice
  * gives an index. Or start instead of resuming: a fresh slave hunts, and its offset delay, frequency and power are 0 until notices give them.
@@ -154,8 +155,8 @@ typedef struct {
 } vikombare_waiting;
 
 /* A slave. Copy it, keep it, read it; only the calls below change it. It has bytes of padding, of which no call says anything: compare slaves field by
- * field, and not by memcmp. One that was damaged, or that lies in memory which kept what it had at a reset, is safe to hand in: it counts as cold (15), unless its parts
- * are by chance ones that an accepted call gives. A cold slave stays cold until a start or a resume gives another. */
+ * field, and not by memcmp. One that was damaged, or that lies in memory which kept what it had at a reset, is safe to hand in: it counts as cold (15),
+ * unless its parts are by chance ones that an accepted call gives. A cold slave stays cold until a start or a resume gives another. */
 typedef struct {
     vikombare_board board;
     vikombare_settings settings;
@@ -291,11 +292,11 @@ VIKOMBARE_HOLDS(sizeof(vikombare_reading) == 32 && offsetof(vikombare_reading, n
 VIKOMBARE_KEEP vikombare_change vikombare_dvb_start(uint16_t n, uint16_t site, vikombare_steps tad);
 VIKOMBARE_KEEP vikombare_change vikombare_a110_start(uint16_t n, uint16_t site, vikombare_periods tad);
 
-/* Takes a packet with its arrival tick, and updates the slave in its own memory. Order: 15 (leaves the cold slave), 1, 2, 3 (each leaves the slave as it
- * was, and the packet does not count). Else the packet counts. In either profile a packet whose error indicator is set has its notice ignored with 4, whatever
- * its PID. Of the others, profile 0 reads those of PID 0x0015 as notices, which are taken or ignored with the first of 6 to 13; all else is plain, and in
- * profile 1 every packet is. A hunting slave has no label and no marks, and changes only when a notice is taken; its reply still has the number that a notice
- * is ignored with. A mark is released with the settings that were in force before a notice on the same packet. */
+/* Takes a packet with its arrival tick, and updates the slave in its own memory. Order: 15 (leaves the cold slave), 1, 2, 3 (each leaves the slave as
+ * it was, and the packet does not count). Else the packet counts. In either profile a packet whose error indicator is set has its notice ignored with
+ * 4, whatever its PID. Of the others, profile 0 reads those of PID 0x0015 as notices, which are taken or ignored with the first of 6 to 13; all else
+ * is plain, and in profile 1 every packet is. A hunting slave has no label and no marks, and changes only when a notice is taken; its reply still has
+ * the number that a notice is ignored with. A mark is released with the settings that were in force before a notice on the same packet. */
 VIKOMBARE_KEEP vikombare_reply vikombare_packet(vikombare_slave *slave, const uint8_t *packet, size_t length, vikombare_tick arrival);
 
 /* Takes a packet that comes with a notice in numbers, profile 1, in place of vikombare_packet for this packet. Keep the slave in the answer in place of the
@@ -311,9 +312,10 @@ VIKOMBARE_KEEP vikombare_change vikombare_gap(vikombare_slave slave, uint16_t k)
 /* Saves the slave in the first 38 bytes of out; bytes after them are kept. Order: 15, 18; each keeps every byte of out. */
 VIKOMBARE_KEEP uint8_t vikombare_save(vikombare_slave slave, uint8_t *out, size_t length);
 
-/* Resumes from a saved block, whose trailer is the last 8 bytes that are lent, on a board of these settings: lend what save wrote and nothing behind it. Order:
- * 15 (cold slave), 16, 17 (each leaves a fresh hunting slave of these settings). Whatever the bytes are, unless the answer is 15 the slave's profile, n, site
- * and TAD are these, never the block's. A locked slave goes on from the label that was saved: SETTING OUT AND COMING BACK, above, says what has to be told. */
+/* Resumes from a saved block, whose trailer is the last 8 bytes that are lent, on a board of these settings: lend what save wrote and nothing behind it.
+ * Order: 15 (cold slave), 16, 17 (each leaves a fresh hunting slave of these settings). Whatever the bytes are, unless the answer is 15 the slave's
+ * profile, n, site and TAD are these, never the block's. A locked slave goes on from the label that was saved: SETTING OUT AND COMING BACK, above, says
+ * what has to be told. */
 VIKOMBARE_KEEP vikombare_change vikombare_dvb_resume(const uint8_t *block, size_t length, uint16_t n, uint16_t site, vikombare_steps tad);
 VIKOMBARE_KEEP vikombare_change vikombare_a110_resume(const uint8_t *block, size_t length, uint16_t n, uint16_t site, vikombare_periods tad);
 
