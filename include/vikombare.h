@@ -20,7 +20,7 @@
  *  - the stack is aligned to 16 bytes at each call and has 2 KiB left.
  *
  * SETTING OUT AND COMING BACK
- * A call that answers 15 leaves the cold slave, which answers 15 to every packet until a start or a resume gives another: look for
+ * A call that changes a slave and answers 15 leaves the cold one, which gets 15 to every packet until a start or a resume gives another: look for
  * VIKOMBARE_REFUSED_COLD in each reply, and start again.
  * A warm boot resumes at the label that was saved. Tell the packets that passed since, with vikombare_gap, before the next packet (more than 65535 in
  * several gaps). Untold, they leave the count behind by as many: packets get wrong labels, and a wrong packet can be taken for the mark and released
