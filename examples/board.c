@@ -1,4 +1,5 @@
-/* What a board's firmware does with the library, in small: starts a slave, feeds it a stream, saves it, resumes it, and prints what it says. */
+/* What a board's firmware does with the library, in small: starts a slave, feeds it a stream, saves it, resumes it, and prints what it says. The same file
+ * is C11 and C++11. */
 #include <stdio.h>
 #include <stdlib.h>
 #include <string.h>
@@ -8,6 +9,18 @@
 enum { PACKET = VIKOMBARE_PACKET_BYTES, CADENCE = 2016, SITE = 7 };
 
 static const vikombare_steps TAD = {200};
+
+static vikombare_steps steps(uint32_t count)
+{
+    vikombare_steps s = {count};
+    return s;
+}
+
+static vikombare_periods periods(uint32_t count)
+{
+    vikombare_periods p = {count};
+    return p;
+}
 
 /* A null packet. */
 static void null_packet(uint8_t *packet)
@@ -21,9 +34,10 @@ static void null_packet(uint8_t *packet)
 /* Writes a notice; the addressing field may be empty. */
 static void notice_packet(uint8_t *packet, uint16_t pointer, uint32_t sts, uint32_t md, const uint8_t *addressing, size_t length)
 {
-    vikombare_notice notice = {.continuity = 0, .pointer = pointer, .periodic = true, .sts = {sts}, .md = {md}};
+    /* continuity, pointer, periodic, reserved, STS, MD, TPS */
+    vikombare_notice notice = {0, pointer, true, 0, {sts}, {md}, 0};
     uint8_t number = vikombare_write(packet, PACKET, notice, addressing, length);
-    if (number != 0) {
+    if (number != VIKOMBARE_ACCEPTED) {
         printf("write refused %u\n", number);
         exit(1);
     }
@@ -31,7 +45,7 @@ static void notice_packet(uint8_t *packet, uint16_t pointer, uint32_t sts, uint3
 
 static void print_reply(vikombare_reply reply)
 {
-    if (reply.number != 0) {
+    if (reply.number != VIKOMBARE_ACCEPTED) {
         printf("refused %u\n", reply.number);
         return;
     }
@@ -41,24 +55,24 @@ static void print_reply(vikombare_reply reply)
         printf("no label");
     if (reply.has_place)
         printf(", M/H place %u", reply.place);
-    if (reply.notice == VIKOMBARE_TAKEN)
+    if (reply.notice == VIKOMBARE_NOTICE_TAKEN)
         printf(", notice taken");
-    if (reply.notice == VIKOMBARE_SLIP)
+    if (reply.notice == VIKOMBARE_NOTICE_SLIP)
         printf(", notice taken after a slip");
-    if (reply.notice == VIKOMBARE_IGNORED)
+    if (reply.notice == VIKOMBARE_NOTICE_IGNORED)
         printf(", notice ignored %u", reply.ignored);
     switch (reply.mark.kind) {
-    case VIKOMBARE_UNTIMED:
+    case VIKOMBARE_MARK_UNTIMED:
         printf(", mark untimed");
         break;
-    case VIKOMBARE_LATE:
+    case VIKOMBARE_MARK_LATE:
         printf(", mark late");
         break;
-    case VIKOMBARE_DVB_RELEASED:
+    case VIKOMBARE_MARK_DVB_RELEASED:
         printf(", mark: emission %lu, modulation %lu, wait %lld steps", (unsigned long)reply.mark.dvb.emission.steps,
                (unsigned long)reply.mark.dvb.modulation.steps, (long long)reply.mark.dvb.wait);
         break;
-    case VIKOMBARE_A110_RELEASED:
+    case VIKOMBARE_MARK_A110_RELEASED:
         printf(", mark: emission %lu, modulation %lu, wait %lld periods", (unsigned long)reply.mark.a110.emission.periods,
                (unsigned long)reply.mark.a110.modulation.periods, (long long)reply.mark.a110.wait);
         break;
@@ -70,7 +84,7 @@ static void print_reply(vikombare_reply reply)
 
 static void feed_dvb(vikombare_slave *slave, const uint8_t *packet, uint32_t tick)
 {
-    print_reply(vikombare_packet(slave, packet, PACKET, vikombare_dvb_tick((vikombare_steps){tick})));
+    print_reply(vikombare_packet(slave, packet, PACKET, vikombare_dvb_tick(steps(tick))));
 }
 
 static void print_change(const char *what, vikombare_change change)
@@ -111,7 +125,7 @@ static void dvb_board(void)
     packet[24] ^= 1;
     feed_dvb(&slave, packet, 550000);
     feed_dvb(&slave, null, 10000000);
-    print_reply(vikombare_packet(&slave, null, PACKET, vikombare_a110_tick((vikombare_periods){600000})));
+    print_reply(vikombare_packet(&slave, null, PACKET, vikombare_a110_tick(periods(600000))));
     feed_dvb(&slave, null, 600000);
 }
 
@@ -119,12 +133,13 @@ static void a110_board(void)
 {
     uint8_t null[PACKET];
     null_packet(null);
-    vikombare_change change = vikombare_a110_start(624, SITE, (vikombare_periods){1000});
+    vikombare_change change = vikombare_a110_start(624, SITE, periods(1000));
     print_change("A/110 start", change);
-    vikombare_numbers_notice notice = {.pointer = 0, .sts = {19392657}, .md = {63740}, .od = -32768, .index = 0};
-    vikombare_step step = vikombare_numbers(change.slave, null, PACKET, (vikombare_periods){19000000}, notice);
+    /* pointer, STS, MD, OD, index */
+    vikombare_numbers_notice notice = {0, {19392657}, {63740}, -32768, 0};
+    vikombare_step step = vikombare_numbers(change.slave, null, PACKET, periods(19000000), notice);
     print_reply(step.reply);
-    print_reply(vikombare_packet(&step.slave, null, PACKET, vikombare_a110_tick((vikombare_periods){5})));
+    print_reply(vikombare_packet(&step.slave, null, PACKET, vikombare_a110_tick(periods(5))));
 }
 
 int main(void)

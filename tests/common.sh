@@ -1,15 +1,16 @@
 # Shared by run and bench, which stand in the repository's root: the proved library, and programs linked with it. All goes below target/.
+. tools/progress.sh
 out=target/tests
 mkdir -p "$out"
 
 # The proved code: what a board links as target/staticlib/libvikombare.a, and calls for tests as target/staticlib/libprobe.a.
 proved() {
-    rt staticlib vikombare && rt staticlib probe
+    proving staticlib vikombare && proving staticlib probe
 }
 
 # The log program as target/bin/log.
 program() {
-    rt check log
+    proving check log
 }
 
 # build NAME FILE WORDS...: target/tests/NAME from tests/FILE, offline and with the standard library alone.
@@ -23,6 +24,7 @@ build() {
 # step NAME COMMAND...: the last line of what the command prints, or all of it if it fails. target/tests/NAME.log has it whole.
 step() {
     log=$out/$1.log
+    say "tests/${0##*/}: $1"
     shift
     if "$@" >"$log" 2>&1; then
         tail -n 1 "$log"
