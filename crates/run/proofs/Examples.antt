@@ -122,7 +122,8 @@ overReplies =
     said (some 620) taken unmarked ∷ said (some 2) absent unmarked ∷ said (some 620) slip unmarked ∷ said (some 0) absent untimed
     ∷ said (some 620) taken unmarked ∷ []
 
--- u leaves 0 and comes back: 621 is lost and told only after 622. The labels are right again, and the mark at 624 is not told exactly, though u is 0 there
+-- u leaves 0 and comes back: 621 is lost and told only after 622. The labels are right again, and the mark at 624 is not told exactly, though u is
+-- 0 there
 abbrev backCalls : List Call
 backCalls = note 3 620 1 (pos 0) ∷ plain 622 2 ∷ gap 1 ∷ plain 623 3 ∷ plain 624 19_392_650 ∷ []
 

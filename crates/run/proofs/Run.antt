@@ -116,5 +116,6 @@ demand-3 A =
       one-time = λ g h calls others same-profile same-n run also t p q x y a b.
           let k = released-time g A calls t p x run a in
           let l = released-time h A others t q y also b in
-          (k .0 ∙ same-profile ∙ sym (l .0), one-reference (g .n) (second (g .profile)) A t (x .reference) (y .reference) (k .1) (rw (same-profile, same-n) (l .1)));
+          let times = one-reference (g .n) (second (g .profile)) A t (x .reference) (y .reference) (k .1) (rw (same-profile, same-n) (l .1)) in
+          (k .0 ∙ same-profile ∙ sym (l .0), times);
     }

@@ -96,6 +96,7 @@ OneTime A =
     (g h : Board) (calls others : List Call) → g .profile ≡ h .profile → g .n ≡ h .n → Run g A calls → Run h A others
     → (t p q : ℕ) (x y : Times) → ReleasedAt g calls t p x → ReleasedAt h others t q y → (p ≡ q) × (x .reference ≡ y .reference)
 
+-- every run on the adapter's stream, and any two
 pub record Demand3 (A : Adapter) : Type 0 where
   pub followed : (g : Board) (calls : List Call) → Run g A calls → Followed g A calls
   pub one-time : OneTime A
