@@ -26,10 +26,11 @@ one-label n some z {a} {b} d = go (eqb (residue n z) 0) refl
     go true e = eq-eqb (a % n) (b % n) (sym (ap (λ (x : ℕ). x % n) (omega (arith, eqb-true (residue n z) 0 e)) ∙ residue-is some d))
     go false e = ne-eqb (a % n) (b % n) (λ q. eqb-false _ _ e (residue-only some d 0 some (ap (λ (x : ℕ). x % n) (omega arith) ∙ sym q)))
 
--- the label of a place b that lags the place a by a − b
-pub label-behind : (n : ℕ) → 0 < n → (z : ℤ) {a b : ℕ} → Diff z a b → b % n ≡ residue n (pos a -ℤ z)
+-- the label of a place b that lags the place a by a − b: a's label less a − b, modulo n
+pub label-behind : (n : ℕ) → 0 < n → (z : ℤ) {a b : ℕ} → Diff z a b → b % n ≡ residue n (pos (a % n) -ℤ z)
 label-behind n some z {a} {b} d =
-    sym (residue-only some (difference (natural a) d) (b % n) (mod-lt b some) (mod-add-mod b n (0 + a) ∙ ap (λ (x : ℕ). x % n) (omega arith)))
+    sym (residue-only some (difference (natural (a % n)) d) (b % n) (mod-lt b some)
+    (mod-add-mod b n (0 + a) ∙ ap (λ (x : ℕ). x % n) (omega arith) ∙ sym (mod-add-mod a n b)))
 
 module _ (n place cadence : ℕ) (some : 0 < n) (after : cadence * n < place) (till : place ≤ suc cadence * n) where
   -- label 0 is where the next cadence begins

@@ -4,9 +4,10 @@ use mathlib.Core.Bool.{Bool, true, false}
 use mathlib.Core.List.{List, [], _∷_}
 use mathlib.Core.Option.{Option, none, some}
 use Prim.Native.Nat.{ℕ, _+_, _*_, _/_, _%_}
+use native.Mathlib.Omega.{arith}
 use lib.Dec.{lit≤}
 use lib.IntN.{ℤ, pos, negsuc}
-use lib.ListN.{replicate}
+use lib.ListN.{replicate, take}
 use Rattle.wire.specs.Reply.{Reply, refused, given}
 use Rattle.check_value.specs.Register.{bitIn, bitsIn, registerFrom, register}
 use Rattle.times.specs.Whole.{within}
@@ -25,9 +26,11 @@ use Rattle.slave.specs.Step.{releaseAt, markAt, passed, unheard, counted, markT
 use Rattle.slave.specs.Gap.{gapped}
 use Rattle.slave.specs.Calls.{startOf, packetOf, numbersOf, gapOf}
 use Rattle.run.specs.Adapter.{Adapter}
-use Rattle.run.specs.Book.{byValue, inPlace, packet, numbers, Call, at, gap, judged, Book, closed, verdictAt, untold, countPlace, tellGap, enter, enterCall}
-use Rattle.run.specs.Run.{hear, leave, begun, places, Run}
-use Rattle.run.specs.Claim.{toldExactly}
+use Rattle.run.specs.Book.{byValue, inPlace, Arrival, packet, numbers, Call, at, gap, judged, Book, closed, verdictAt, untold, countPlace, tellGap, enter, enterCall, bookAfter}
+use Rattle.run.specs.Run.{hear, leave, slaveAfter, begun, places, Run}
+use Rattle.run.specs.Claim.{toldExactly, Timed}
+use Rattle.run.specs.Sentences.{labelIn, noticeIn}
+use Rattle.run.proofs.Sentences.{sentences}
 
 -- profile 1; in each cadence a notice at label 620. The first mark is after the pulse, by 42 units
 abbrev sts : ℕ → ℕ
@@ -46,11 +49,18 @@ clean = 0x47 ∷ replicate 187 0
 abbrev damaged : List ℕ
 damaged = 0x46 ∷ replicate 187 0
 
-abbrev plain : ℕ → ℕ → Call
-plain t tick = at t (packet inPlace clean tick)
+-- a plain packet, and a numbers notice with the adapter's STS and MD: what comes, and the call
+abbrev quiet : ℕ → Arrival
+quiet tick = packet inPlace clean tick
 
-abbrev note : ℕ → ℕ → ℤ → Call
-note t tick od = at t (numbers clean tick (record { pointer = 3; sts = record { 0 = sts (t / 624) }; md = record { 0 = 100 }; od = od; index = 255 }))
+abbrev plain : ℕ → ℕ → Call
+plain t tick = at t (quiet tick)
+
+abbrev tells : (pointer t tick : ℕ) → ℤ → Arrival
+tells pointer t tick od = numbers clean tick (record { pointer = pointer; sts = record { 0 = sts (t / 624) }; md = record { 0 = 100 }; od = od; index = 255 })
+
+abbrev note : (pointer t tick : ℕ) → ℤ → Call
+note pointer t tick od = at t (tells pointer t tick od)
 
 abbrev said : Option ℕ → Notice → Mark → Reply Report
 said l n m = given (record { label = l; notice = n; turn = false; mark = m; place = none })
@@ -78,7 +88,7 @@ pub record Computed (A : Adapter) (g : Board) (calls : List Call) (answers : Lis
 
 -- losses told: a packet refused with K and one that never came are told by one gap
 abbrev toldCalls : List Call
-toldCalls = plain 5 0 ∷ note 620 1 (pos 0) ∷ plain 621 2 ∷ at 622 (packet byValue damaged 3) ∷ gap 2 ∷ plain 624 19_392_650 ∷ []
+toldCalls = plain 5 0 ∷ note 3 620 1 (pos 0) ∷ plain 621 2 ∷ at 622 (packet byValue damaged 3) ∷ gap 2 ∷ plain 624 19_392_650 ∷ []
 
 abbrev toldReplies : List (Reply Report)
 toldReplies =
@@ -87,7 +97,7 @@ toldReplies =
 
 -- two lost untold: the labels are two behind, the mark's own packet is not seen as it, and the next notice slips. From then on all is told
 abbrev slipCalls : List Call
-slipCalls = note 620 1 (pos 0) ∷ plain 621 2 ∷ plain 624 3 ∷ gap 619 ∷ note 1244 4 (pos 0) ∷ gap 3 ∷ plain 1248 460 ∷ []
+slipCalls = note 3 620 1 (pos 0) ∷ plain 621 2 ∷ plain 624 3 ∷ gap 619 ∷ note 3 1244 4 (pos 0) ∷ gap 3 ∷ plain 1248 460 ∷ []
 
 abbrev slipReplies : List (Reply Report)
 slipReplies =
@@ -96,19 +106,49 @@ slipReplies =
 
 -- a whole cadence lost untold: the mark at 1248 is released with the time of the mark at 624, which is not claimed, and the next notice is no slip
 abbrev cadenceCalls : List Call
-cadenceCalls = note 620 1 (pos 0) ∷ plain 621 2 ∷ plain 1246 3 ∷ gap 1 ∷ plain 1248 0 ∷ gap 619 ∷ note 1868 5 (pos 0) ∷ []
+cadenceCalls = note 3 620 1 (pos 0) ∷ plain 621 2 ∷ plain 1246 3 ∷ gap 1 ∷ plain 1248 0 ∷ gap 619 ∷ note 3 1868 5 (pos 0) ∷ []
 
 abbrev cadenceReplies : List (Reply Report)
 cadenceReplies =
     said (some 620) taken unmarked ∷ said (some 621) absent unmarked ∷ said (some 622) absent unmarked ∷ said (some 0) absent (inBits 42 42 22 22)
     ∷ said (some 620) taken unmarked ∷ []
 
+-- more told than lost: u is −4, the label is four ahead and the next notice slips; then it is −624, a whole cadence too many, and that is no slip
+abbrev overCalls : List Call
+overCalls = note 3 620 1 (pos 0) ∷ gap 5 ∷ plain 622 2 ∷ gap 621 ∷ note 3 1244 3 (pos 0) ∷ gap 627 ∷ plain 1248 4 ∷ gap 619 ∷ note 3 1868 5 (pos 0) ∷ []
+
+abbrev overReplies : List (Reply Report)
+overReplies =
+    said (some 620) taken unmarked ∷ said (some 2) absent unmarked ∷ said (some 620) slip unmarked ∷ said (some 0) absent untimed
+    ∷ said (some 620) taken unmarked ∷ []
+
+-- u leaves 0 and comes back: 621 is lost and told only after 622. The labels are right again, and the mark at 624 is not told exactly, though u is
+-- 0 there
+abbrev backCalls : List Call
+backCalls = note 3 620 1 (pos 0) ∷ plain 622 2 ∷ gap 1 ∷ plain 623 3 ∷ plain 624 19_392_650 ∷ []
+
+abbrev backReplies : List (Reply Report)
+backReplies =
+    said (some 620) taken unmarked ∷ said (some 621) absent unmarked ∷ said (some 623) absent unmarked ∷ said (some 0) absent (inBits 42 42 22 30) ∷ []
+
+-- notices on the marks themselves. The first notice is on label 0: its mark is untimed, and the notice waits for the next one. There mark and
+-- notice are on one packet: the mark is released with the old notice and the old OD, and the new ones are for the mark after it
+abbrev Z : Adapter
+Z c = some (record { label = 0; sts = sts c; md = 100 })
+
+abbrev markCalls : List Call
+markCalls = note 623 624 1 (pos 0) ∷ gap 623 ∷ note 623 1248 460 (negsuc 29) ∷ gap 623 ∷ plain 1872 950 ∷ []
+
+abbrev markReplies : List (Reply Report)
+markReplies =
+    said (some 0) taken untimed ∷ said (some 0) taken (inBits 542 542 522 62) ∷ said (some 0) absent (inBits 1042 1012 992 42) ∷ []
+
 -- another site, with other delays, that has the mark at 624 after the second's pulse: the same reference time
 abbrev h : Board
 h = record { profile = 1; n = 624; site = 9; tad = 1 }
 
 abbrev otherCalls : List Call
-otherCalls = note 620 1 (negsuc 29) ∷ gap 3 ∷ plain 624 10 ∷ []
+otherCalls = note 3 620 1 (negsuc 29) ∷ gap 3 ∷ plain 624 10 ∷ []
 
 abbrev otherReplies : List (Reply Report)
 otherReplies = said (some 620) taken unmarked ∷ said (some 0) absent (inBits 42 12 11 1) ∷ []
@@ -138,6 +178,9 @@ pub computed :
     Computed A g toldCalls toldReplies (false ∷ false ∷ true ∷ true ∷ true ∷ [])
     × Computed A g slipCalls slipReplies (false ∷ true ∷ false ∷ false ∷ true ∷ [])
     × Computed A g cadenceCalls cadenceReplies (false ∷ true ∷ false ∷ false ∷ false ∷ [])
+    × Computed A g overCalls overReplies (false ∷ false ∷ false ∷ false ∷ false ∷ [])
+    × Computed A g backCalls backReplies (false ∷ false ∷ false ∷ false ∷ [])
+    × Computed Z g markCalls markReplies (false ∷ true ∷ true ∷ [])
     × Computed A h otherCalls otherReplies (false ∷ true ∷ [])
     × Computed B k mipCalls mipReplies (false ∷ true ∷ true ∷ true ∷ [])
 unfolding places enterCall verdictAt judged enter countPlace tellGap untold hear leave startOf packetOf numbersOf gapOf sound settingsKept admits isMegaFrame atSomeRate second partsFit huntingFits isUnset isZero lockedFits frequencyFits indexFits waitingFits isNothing delayKept delayFits delayFitsA110 within arrivalRefusal carries takenRefusal limited judgeMip judgeArrived judgeGiven stepOf counted passed unheard took markAt markTaken noticeTaken releaseAt dueOf wrap modulation linkDelay gapped sectionRefusal settingsOf entriesIn functionsOf functionsIn lengthFits setBy addressed register registerFrom bitsIn bitIn
@@ -158,6 +201,21 @@ computed = (
     booked = refl;
   },
   record {
+    run = record { accepted = refl; rising = (lit≤ tt, (lit≤ tt, (lit≤ tt, (lit≤ tt, (lit≤ tt, tt))))); genuine = (record { points = refl; here = refl }, (tt, (tt, (tt, (record { points = refl; here = refl }, (tt, (tt, (tt, (record { points = refl; here = refl }, tt))))))))) };
+    replied = refl;
+    booked = refl;
+  },
+  record {
+    run = record { accepted = refl; rising = (lit≤ tt, (lit≤ tt, (lit≤ tt, (lit≤ tt, tt)))); genuine = (record { points = refl; here = refl }, (tt, (tt, (tt, (tt, tt))))) };
+    replied = refl;
+    booked = refl;
+  },
+  record {
+    run = record { accepted = refl; rising = (lit≤ tt, (lit≤ tt, (lit≤ tt, tt))); genuine = (record { points = refl; here = refl }, (tt, (record { points = refl; here = refl }, (tt, (tt, tt))))) };
+    replied = refl;
+    booked = refl;
+  },
+  record {
     run = record { accepted = refl; rising = (lit≤ tt, (lit≤ tt, tt)); genuine = (record { points = refl; here = refl }, (tt, (tt, tt))) };
     replied = refl;
     booked = refl;
@@ -168,3 +226,27 @@ computed = (
     booked = refl;
   },
 )
+
+-- ---- the sentences of demand 3 at places of these runs: their premises can be met, and they say what was computed
+
+abbrev replyTo : Board → List Call → Arrival → Reply Report
+replyTo g before a = hear (slaveAfter (begun g) before) a .reply
+
+pub read :
+    (labelIn (replyTo g [] (tells 3 620 1 (pos 0))) ≡ some 620)
+    × (labelIn (replyTo g (take 2 slipCalls) (quiet 3)) ≡ some 622)
+    × (noticeIn (replyTo g (take 4 slipCalls) (tells 3 1244 4 (pos 0))) ≡ slip)
+    × Timed 624 19_392_658 A 624 42
+unfolding enterCall verdictAt judged enter countPlace tellGap untold hear leave startOf packetOf numbersOf gapOf sound settingsKept admits second partsFit huntingFits isUnset isZero lockedFits frequencyFits indexFits waitingFits isNothing delayKept delayFits delayFitsA110 within arrivalRefusal carries takenRefusal limited judgeArrived judgeGiven stepOf counted passed unheard took markAt releaseAt dueOf wrap linkDelay gapped slaveAfter bookAfter
+read = (
+  sentences A .where-taken g slipCalls slipRun [] _ 620 _ refl _ refl,
+  sentences A .elsewhere g slipCalls slipRun (take 2 slipCalls) _ 624 _ refl _ refl _ _ _ _ refl,
+  sentences A .slips g slipCalls slipRun (take 4 slipCalls) _ 1244 _ refl _ refl _ _ _ _ refl .1 (λ e. omega (arith, e)),
+  sentences A .times g toldCalls toldRun (take 5 toldCalls) _ 624 _ refl 1 _ refl refl .1,
+)
+  where
+    toldRun : Run g A toldCalls
+    toldRun = computed .0 .run
+
+    slipRun : Run g A slipCalls
+    slipRun = computed .1 .run

@@ -3,4 +3,5 @@ pub mod Congruence
 pub mod Follow
 pub mod Steps
 pub mod Run
+pub mod Sentences
 pub mod Examples

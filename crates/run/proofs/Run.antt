@@ -78,25 +78,27 @@ module _ (g : Board) (A : Adapter) (calls : List Call) (run : Run g A calls) whe
 -- ---- two runs
 
 -- a reply by the book, read for its mark
-timed-by : (g : Board) (A : Adapter) (b : Book) (t : ℕ) (v : Judgement) (c : Report) (x : Times) → RightReply g A b t v (given c)
-    → c .mark ≡ due (g .profile) (released x) → toldExactly b t ≡ true → Timed (g .n) (second (g .profile)) A t (x .reference)
-timed-by g A b t v c x h m e = go v h
+pub timed-by : (g : Board) (A : Adapter) (b : Book) (t : ℕ) (v : Judgement) (c : Report) (p : ℕ) (x : Times) → RightReply g A b t v (given c)
+    → c .mark ≡ due p (released x) → toldExactly b t ≡ true → (p ≡ g .profile) × Timed (g .n) (second (g .profile)) A t (x .reference)
+timed-by g A b t v c p x h m e = go v h
   where
-    by : (label : Option ℕ) (notice : Notice) → Right g A b t label notice (given c) → Timed (g .n) (second (g .profile)) A t (x .reference)
+    by : (label : Option ℕ) (notice : Notice) → Right g A b t label notice (given c)
+        → (p ≡ g .profile) × Timed (g .n) (second (g .profile)) A t (x .reference)
     by label notice k =
         let same : k .report ≡ c = cc (k .counted) in
-        k .timed x (ap (λ (y : Report). y .mark) same ∙ m) e
+        let own = k .unit p (released x) (ap (λ (y : Report). y .mark) same ∙ m) in
+        (own, k .timed x (ap (λ (y : Report). y .mark) same ∙ m ∙ ap (λ (q : ℕ). due q (released x)) own) e)
 
-    go : (v : Judgement) → RightReply g A b t v (given c) → Timed (g .n) (second (g .profile)) A t (x .reference)
+    go : (v : Judgement) → RightReply g A b t v (given c) → (p ≡ g .profile) × Timed (g .n) (second (g .profile)) A t (x .reference)
     go (Refuse k) h = let z : _≡_ {A = ℕ} 0 1 = cc in absurd (omega arith)
     go (Counts k) h = by _ _ h
     go (Takes y) h = by _ _ h
 
-released-time : (g : Board) (A : Adapter) (calls : List Call) (t : ℕ) (x : Times) → Run g A calls → ReleasedAt g calls t x
-    → Timed (g .n) (second (g .profile)) A t (x .reference)
-released-time g A calls t x run m =
+released-time : (g : Board) (A : Adapter) (calls : List Call) (t p : ℕ) (x : Times) → Run g A calls → ReleasedAt g calls t p x
+    → (p ≡ g .profile) × Timed (g .n) (second (g .profile)) A t (x .reference)
+released-time g A calls t p x run m =
     let b = bookAfter g closed (m .before) in
-    timed-by g A b t (verdictAt g b (m .arrival)) (m .report) x
+    timed-by g A b t (verdictAt g b (m .arrival)) (m .report) p x
     (subst (RightReply g A b t (verdictAt g b (m .arrival))) (m .counted) (followed g A calls run .answers (m .before) (m .after) (at t (m .arrival)) (m .call)))
     (m .mark) (m .exact)
 
@@ -111,7 +113,9 @@ pub demand-3 : (A : Adapter) → Demand3 A
 demand-3 A =
     record {
       followed = λ g calls run. followed g A calls run;
-      one-time = λ g h calls others p n run also t x y a b.
-          one-reference (g .n) (second (g .profile)) A t (x .reference) (y .reference) (released-time g A calls t x run a)
-          (rw (p, n) (released-time h A others t y also b));
+      one-time = λ g h calls others same-profile same-n run also t p q x y a b.
+          let k = released-time g A calls t p x run a in
+          let l = released-time h A others t q y also b in
+          let times = one-reference (g .n) (second (g .profile)) A t (x .reference) (y .reference) (k .1) (rw (same-profile, same-n) (l .1)) in
+          (k .0 ∙ same-profile ∙ sym (l .0), times);
     }

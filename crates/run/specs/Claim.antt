@@ -27,7 +27,7 @@ use Rattle.run.specs.Run.{hear, slaveAfter, begun, Run}
 -- where no notice is taken: the adapter's label less the number untold, modulo n; none before the first notice taken
 abbrev pub labelBy : ℕ → Book → ℕ → Option ℕ
 labelBy n closed t = none
-labelBy n (opened s u told od) t = some (residue n (pos t -ℤ untold s u t))
+labelBy n (opened s u told od) t = some (residue n (pos (labelAt n t) -ℤ untold s u t))
 
 -- a later notice taken has the slip mark exactly when the number untold is no multiple of n; the first has none
 abbrev pub slipBy : ℕ → Book → ℕ → Notice
@@ -79,20 +79,24 @@ pub record Followed (g : Board) (A : Adapter) (calls : List Call) : Type 0 where
   pub answers : (before after : List Call) (c : Call) → calls ≡ before ++ c ∷ after
       → RightCall g A (bookAfter g closed before) (slaveAfter (begun g) before) c
 
--- a mark released at place t with these times in a run, all losses since the last notice taken told exactly
-pub record ReleasedAt (g : Board) (calls : List Call) (t : ℕ) (x : Times) : Type 0 where
+-- a mark released at place t with these times, in the unit of this profile, all losses since the last notice taken told exactly
+pub record ReleasedAt (g : Board) (calls : List Call) (t profile : ℕ) (x : Times) : Type 0 where
   pub before : List Call
   pub after : List Call
   pub arrival : Arrival
   pub call : calls ≡ before ++ at t arrival ∷ after
   pub report : Report
   pub counted : hear (slaveAfter (begun g) before) arrival .reply ≡ given report
-  pub mark : report .mark ≡ due (g .profile) (released x)
+  pub mark : report .mark ≡ due profile (released x)
   pub exact : toldExactly (bookAfter g closed before) t ≡ true
 
+-- any two slaves of one profile and cadence on the adapter's stream give one reference time, in one unit, to each mark that both release
+abbrev pub OneTime : Adapter → Type 0
+OneTime A =
+    (g h : Board) (calls others : List Call) → g .profile ≡ h .profile → g .n ≡ h .n → Run g A calls → Run h A others
+    → (t p q : ℕ) (x y : Times) → ReleasedAt g calls t p x → ReleasedAt h others t q y → (p ≡ q) × (x .reference ≡ y .reference)
+
+-- every run on the adapter's stream, and any two
 pub record Demand3 (A : Adapter) : Type 0 where
-  -- every run on the adapter's stream
   pub followed : (g : Board) (calls : List Call) → Run g A calls → Followed g A calls
-  -- any two, of one profile and cadence, give one reference time to each mark that both release
-  pub one-time : (g h : Board) (calls others : List Call) → g .profile ≡ h .profile → g .n ≡ h .n → Run g A calls → Run h A others
-      → (t : ℕ) (x y : Times) → ReleasedAt g calls t x → ReleasedAt h others t y → x .reference ≡ y .reference
+  pub one-time : OneTime A

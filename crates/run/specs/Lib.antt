@@ -3,3 +3,4 @@ pub mod Adapter
 pub mod Book
 pub mod Run
 pub mod Claim
+pub mod Sentences

@@ -1,16 +1,16 @@
 -- What holds of the times of a release, for a second of u units.
 -- Their ranges, where the wait ends, when a mark is late, and one reference time for all sites.
 use mathlib.Core.Path.{_≡_, refl, sym, ap, _∙_, subst}
-use mathlib.Core.Bool.{Bool, true, false}
+use mathlib.Core.Bool.{true, false}
 use Prim.Native.Nat.{ℕ, _+_, _/_, _%_, _≤_, _<_}
 use native.Mathlib.Nat.{mod-lt, mod-mod}
 use native.Mathlib.Omega.{arith}
 use lib.Dec.{T, ltb}
-use lib.IntN.{ℤ, pos, negsuc, natAbs, _+ℤ_}
+use lib.IntN.{ℤ, pos, negsuc, _+ℤ_}
 use lib.Signed.{ltZ}
 use Rattle.times.specs.Whole.{plus, residue}
 use Rattle.times.specs.Release.{wrap, reference, emission, modulation, linkDelay, wait, negative, delayFits, Times, released, waitOf, timesOf, dueOf, Kept}
-use Rattle.times.proofs.Whole.{up, down, Diff, natural, sum, plus-is, congruent, differ, residue-only}
+use Rattle.times.proofs.Whole.{up, down, natural, sum, plus-is, congruent, differ, residue-only}
 use Rattle.times.proofs.Formulas.{wrap-most, wrap-residue, modulation-most, modulation-residue, link-residue, delay-least, delay-less, delay-whole, sum-apart, wait-is, late-is}
 use Rattle.times.proofs.Answers.{Passed, passed}
 
@@ -19,6 +19,17 @@ pub record InRange (u : ℕ) (t : Times) : Type 0 where
   pub reference-most : t .reference ≤ u
   pub emission-most : t .emission ≤ u
   pub modulation-most : t .modulation ≤ u
+
+-- the wait is a natural number of units, at most MD + OD, which is within the second; held so long from the arrival tick on, the mark ends
+-- at its modulation time, modulo u
+pub record Waits (u md : ℕ) (od : ℤ) (arrival : ℕ) (t : Times) : Type 0 where
+  pub units : ℕ
+  pub wait-is : t .wait ≡ pos units
+  pub delay : ℕ
+  pub delay-is : pos md +ℤ od ≡ pos delay
+  pub at-most : units ≤ delay
+  pub in-second : delay < u
+  pub ends : (arrival + units) % u ≡ t .modulation % u
 
 module _ (u sts md : ℕ) (od : ℤ) (fits : delayFits u md od ≡ true) where
   pub emission-most : sts < u → emission u sts md od ≤ u
@@ -50,23 +61,29 @@ module _ (u sts md : ℕ) (od : ℤ) (fits : delayFits u md od ≡ true) where
       (congruent u _ _ (m / u + e / u + x / u + arrival / u) (m % u / u + (m + tad) / u + e / u + (l + sts) / u)
       (omega (arith, plus-is (sts + md) od, delay-least u md od fits)))
 
-  -- ---- a wait that is not late is at most MD + OD
-  pub wait-less : (tad arrival : ℕ) → negative (waitOf u sts md od tad arrival) ≡ false → natAbs (waitOf u sts md od tad arrival) < u
-  wait-less tad arrival = at-most (linkDelay u arrival sts) (waitOf u sts md od tad arrival) (wait-is md od tad (linkDelay u arrival sts))
+  -- ---- a wait that is not late
+  pub waits : (tad arrival : ℕ) → tad < u → negative (waitOf u sts md od tad arrival) ≡ false → Waits u md od arrival (timesOf u sts md od tad arrival)
+  waits tad arrival h = by-sign (waitOf u sts md od tad arrival) refl
     where
-      at-most : (b : ℕ) (z : ℤ) → Diff z (md + up od + 0 + 0) (0 + down od + tad + b) → negative z ≡ false → natAbs z < u
-      at-most b (pos k) d e = omega (arith, d .is, plus-is md od, delay-least u md od fits, delay-less u md od fits)
-      at-most b (negsuc k) d e = absurd (subst T e tt)
+      by-sign : (z : ℤ) → waitOf u sts md od tad arrival ≡ z → negative z ≡ false → Waits u md od arrival (timesOf u sts md od tad arrival)
+      by-sign (pos k) e in-time =
+          let d = wait-is md od tad (linkDelay u arrival sts) in
+          record {
+            units = k;
+            wait-is = e;
+            delay = plus md od;
+            delay-is = sym (delay-whole u md od fits);
+            at-most = omega (arith, d .is, ap up e, ap down e, plus-is md od, delay-least u md od fits);
+            in-second = delay-less u md od fits;
+            ends = sym (ap (λ (z : ℤ). residue u (pos arrival +ℤ z)) e) ∙ wait-ends tad arrival h;
+          }
+      by-sign (negsuc k) e in-time = absurd (subst T in-time tt)
 
   -- ---- late exactly when MD + OD is over before the link delay and TAD are
   pub late-after : (tad link : ℕ) → negative (wait md od tad link) ≡ ltb (plus md od) (tad + link)
   late-after tad link = late-is md od tad link ∙ ap (λ (z : ℤ). ltZ z (pos (tad + link))) (sym (delay-whole u md od fits))
 
 -- ---- of a mark that was released within the limits
-in-time : (z : ℤ) → negative z ≡ false → z ≡ pos (natAbs z)
-in-time (pos n) e = refl
-in-time (negsuc n) e = absurd (subst T e tt)
-
 module _ (u sts md : ℕ) (od : ℤ) (tad arrival : ℕ) (t : Times) (answer : dueOf u sts md od tad arrival ≡ released t) where
   has : Passed u sts md od tad arrival t
   has = passed u sts md od tad arrival t answer
@@ -79,18 +96,8 @@ module _ (u sts md : ℕ) (od : ℤ) (tad arrival : ℕ) (t : Times) (answer : d
     pub released-range : InRange u t
     released-range = subst (InRange u) (has .times-are) (times-range u sts md od (k .delay-fits) tad arrival (k .sts-less) (k .md-less))
 
-    -- the wait is less than a second: it is at most MD + OD
-    pub released-wait : natAbs (t .wait) < u
-    released-wait =
-        subst (λ (x : Times). natAbs (x .wait) < u) (has .times-are)
-        (wait-less u sts md od (k .delay-fits) tad arrival (has .in-time))
-
-    -- held for its wait from the arrival tick on, the mark ends at its modulation time, modulo u
-    pub released-ends : (arrival + natAbs (t .wait)) % u ≡ t .modulation % u
-    released-ends =
-        subst (λ (x : Times). (arrival + natAbs (x .wait)) % u ≡ x .modulation % u) (has .times-are)
-        (sym (ap (λ (z : ℤ). residue u (pos arrival +ℤ z)) (in-time (waitOf u sts md od tad arrival) (has .in-time)))
-        ∙ wait-ends u sts md od (k .delay-fits) tad arrival (k .tad-less))
+    pub released-waits : Waits u md od arrival t
+    released-waits = subst (Waits u md od arrival) (has .times-are) (waits u sts md od (k .delay-fits) tad arrival (k .tad-less) (has .in-time))
 
 -- two sites that release a mark of one STS and MD give it one reference time
 pub one-reference :
