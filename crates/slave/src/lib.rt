@@ -204,9 +204,9 @@ pub fn numbers_way(s: Slave, p: &[u8], tick: u32, x: Numbers) -> Way
     if !state::parts_fit(s) {
         return Way::Cold;
     }
-    let refusal = judging::arrival_refusal(board.profile, p, tick);
-    if refusal != 0 {
-        return Way::Refused(refusal);
+    let number = judging::arrival_refusal(board.profile, p, tick);
+    if number != 0 {
+        return Way::Refused(number);
     }
     if board.profile == 0 {
         return Way::Refused(20);
