@@ -103,9 +103,26 @@ fn follow(s: Slave, input: &mut [u8], output: &mut [u8]) {
     }
 }
 
+// Whether the settings came, as far as the input goes: of short ones one more read tells whether it ended, and standard error why it cannot be read.
+fn settings_came(n: usize) -> bool {
+    if n == lines::SETTINGS_LENGTH {
+        return true;
+    }
+    let mut next = [0u8; 1];
+    let got = libc::read(STDIN_FILENO, &mut next);
+    if got < 0 {
+        os::fail(b"read");
+        return false;
+    }
+    true
+}
+
 fn main() {
     let mut head = [0u8; lines::SETTINGS_LENGTH];
     let n = io::read_full(STDIN_FILENO, &mut head);
+    if !settings_came(n) {
+        return;
+    }
     let mut opening = [0u8; lines::OPENING_ROOM];
     let b = lines::begin(&head[..n], &mut opening);
     let filled = b.filled;

@@ -13,6 +13,12 @@ slice-aggregate-read-full c = search needs
 read-full-requires : tie.Need-read-full-requires
 read-full-requires c κs = search needs
 
+settings-came-requires : tie.Need-settings-came-requires
+settings-came-requires c κs = search needs
+
+returns : tie.Need-returns
+returns c = search needs
+
 array-share-prefix-head : tie.Need-array-share-prefix-head
 array-share-prefix-head c = search needs
 
@@ -46,14 +52,14 @@ follow-requires c κs = search needs
 enum-told-2 : tie.Need-enum-told-2
 enum-told-2 c = search needs
 
-returns : tie.Need-returns
-returns c = search needs
-
 returns-2 : tie.Need-returns-2
 returns-2 c = search needs
 
 returns-3 : tie.Need-returns-3
 returns-3 c = search needs
+
+returns-4 : tie.Need-returns-4
+returns-4 c = search needs
 
 pub main-spec : {M : Type 1} → statement M
 main-spec =
@@ -61,6 +67,8 @@ main-spec =
     (tie.spec
     slice-aggregate-read-full
     read-full-requires
+    settings-came-requires
+    returns
     array-share-prefix-head
     slice-aggregate-begin
     begin-requires
@@ -72,6 +80,6 @@ main-spec =
     slice-aggregate-follow-2
     follow-requires
     enum-told-2
-    returns
     returns-2
-    returns-3)
+    returns-3
+    returns-4)
