@@ -31,6 +31,7 @@ extern "C" {
     fn probe_label(n: u16, pointer: u16) -> Label;
     fn probe_mobile_place(i: u8, p: u16) -> u16;
     fn probe_packet(slave: CSlave, p: *const u8, length: usize, tick: u32) -> CStep;
+    fn probe_handed(slave: CSlave, p: *const u8, length: usize, tick: u32) -> CStep;
 }
 
 // No exported call has a condition on its arguments, so each is safe to call.
@@ -66,6 +67,11 @@ pub fn mobile_place(i: u8, p: u16) -> u16 {
 #[inline(always)]
 pub fn packet(slave: CSlave, p: &[u8], tick: u32) -> CStep {
     unsafe { probe_packet(slave, p.as_ptr(), p.len(), tick) }
+}
+
+#[inline(always)]
+pub fn handed(slave: CSlave, p: &[u8], tick: u32) -> CStep {
+    unsafe { probe_handed(slave, p.as_ptr(), p.len(), tick) }
 }
 
 impl From<Result<basics::Settings, u8>> for Settings {

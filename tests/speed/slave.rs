@@ -202,6 +202,16 @@ fn mip(pointer: u16, field: &[u8]) -> Vec<u8> {
     notices::packet_of(&Notice { continuity: 0, pointer, periodic: true, reserved: 0, sts: 9_500_000, md: 700_000, tps: 0x8116_0000 }, field)
 }
 
+/// A row for the slave handed in and back by the same C signature as a packet's, with nothing done.
+fn handed(slave: Slave) {
+    let null = notices::null();
+    let slaves = of_c(&vec![slave; INPUTS]);
+    let ours = Step::from(probe::handed(slaves[0], &null, tick()));
+    assert!(ours == by_value(slave, &null, tick()), "{ours:?}");
+    let figures = best(ROUNDS, vec![candidate("", |k| probe::handed(slaves[k], &null, tick()))]);
+    row("handed in and back, nothing done", [Some(figures[0]), None], [None, None]);
+}
+
 /// Prints the table.
 pub fn measure() {
     let hunting = Slave::hunting(0, 2016, 7, 200);
@@ -210,6 +220,7 @@ pub fn measure() {
     let of_a110 = |slave: Slave| Slave { profile: 1, n: 624, index: if slave.phase == LOCKED { 19 } else { UNKNOWN }, ..slave };
 
     println!("\n| Call | Proved, by value | Rust, by value | Ratio | Proved, in place | Rust, in place | Ratio |\n|---|---|---|---|---|---|---|");
+    handed(hunting);
     Calls::new(|_| hunting, |_| notices::null()).measure("null packet, hunting", 0, 0);
     Calls::new(locked, |_| notices::null()).measure("null packet, locked", 0, 0);
     Calls::new(|k| of_a110(locked(k)), |_| notices::null()).measure("null packet, locked, profile 1", 0, 0);

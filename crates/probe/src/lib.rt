@@ -16,7 +16,8 @@ ghost use Rattle.cadence.specs.Cadence.{admits};
 ghost use Rattle.cadence.specs.Label.{labelOf, inCadence};
 ghost use Rattle.cadence.specs.MobileFrame.{mobilePlace};
 ghost use Rattle.slave.specs.Calls.{packetOf};
-ghost use Rattle.replies.specs.Flat.{flatStep};
+ghost use Rattle.wire.specs.Reply.{refused};
+ghost use Rattle.replies.specs.Flat.{flatReply, flatLeft, flatStep};
 ghost use Rattle.probe.specs.Flat.{flatSettings, flatLabel};
 
 #[repr(C)]
@@ -121,4 +122,15 @@ pub extern "C" fn probe_packet(s: Slave, p: &[u8], tick: u32) -> Step
     ensures { λ r. ⌜ r ≡ flatStep (packetOf s (now (p .entry)) tick) ⌝ }
 {
     by_value::packet_step(s, p, tick)
+}
+
+// Hands the slave back with an empty reply: what a packet by value costs before anything is done.
+#[no_mangle]
+pub extern "C" fn probe_handed(s: Slave, p: &[u8], tick: u32) -> Step
+    ensures { λ r. ⌜ r ≡ flatLeft s (flatReply (refused 0)) ⌝ }
+{
+    Step {
+        slave: s,
+        reply: replies::number_alone(0),
+    }
 }
