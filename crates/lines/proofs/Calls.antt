@@ -1,7 +1,7 @@
 -- Calls of `take_piece` one after another do together what one call does over all their bytes.
 use mathlib.Core.Path.{_≡_, refl, sym, ap, ap₂, _∙_, subst}
 use mathlib.Core.List.{List, [], _∷_, _++_, append-assoc, append-nil}
-use Prim.Native.Nat.{ℕ, zero, suc, _+_, _*_, _/_, _-_, _≤_, _<_, min}
+use Prim.Native.Nat.{ℕ, zero, suc, _+_, _*_, _/_, _-_, _≤_, _<_}
 use native.Mathlib.Nat.{min-eq-left, le-min}
 use native.Mathlib.Omega.{arith}
 use lib.ListN.{length, take, drop, length-append, length-drop}
@@ -59,13 +59,12 @@ bytes p c = p .held ++ c .piece
 abbrev handles : Place → Call → ℕ
 handles p c = handledIn (length (bytes p c)) (length (c .output)) (p .number)
 
+abbrev Taken : Place → Call → List ℕ → Type 0
+Taken p c i = PieceTaken (p .slave) (p .number) i (handledIn (length i) (length (c .output)) (p .number)) (c .input) (c .input′) (c .output) (c .output′) (c .answer)
+
 module _ {p : Place} {c : Call} (made : Made p c) where
-  taken : PieceTaken (p .slave) (p .number) (bytes p c) (handles p c) (c .input) (c .input′) (c .output) (c .output′) (c .answer)
-  taken =
-      subst
-      (λ (b : List ℕ). PieceTaken (p .slave) (p .number) b (handledIn (length b) (length (c .output)) (p .number)) (c .input) (c .input′) (c .output) (c .output′) (c .answer))
-      (made .given)
-      (made .kept)
+  taken : Taken p c (bytes p c)
+  taken = subst (Taken p c) (made .given) (made .kept)
 
   -- where it leaves the log, and what it writes
   pub call-leaves : leave c ≡ placeAt (handles p c) p (bytes p c)
@@ -113,7 +112,7 @@ calls-whole p calls m h =
     let e : k ≡ length all / recordLength = omega (arith, t .whole) in
     subst (λ (n : ℕ). Together n p calls) e t
 
--- where there is room for all lines, a call handles each record that is whole
+-- where its output has room for their lines, a call handles each record that is whole
 pub handles-whole : (bytes room number : ℕ) → lineRoom * (bytes / recordLength) ≤ room → number + bytes / recordLength ≤ mostRecords
     → handledIn bytes room number ≡ bytes / recordLength
 unfolding handledIn
@@ -131,7 +130,8 @@ held-less p (c ∷ cs) m room h l =
     let later : List ℕ = came cs in
     let all : length i + length later ≡ length (p .held ++ (c .piece ++ later)) = sym (length-append i later) ∙ ap length (append-assoc (p .held) (c .piece) later) in
     let enough : lineRoom * k ≤ length (c .output) = subst (λ (b : List ℕ). lineRoom * (length b / recordLength) ≤ length (c .output)) (m .0 .given) (room .0) in
-    let e : leave c ≡ placeAt k p i = call-leaves (m .0) ∙ ap (λ (n : ℕ). placeAt n p i) (handles-whole (length i) (length (c .output)) (p .number) enough (omega arith)) in
+    let j : handles p c ≡ k = handles-whole (length i) (length (c .output)) (p .number) enough (omega arith) in
+    let e : leave c ≡ placeAt k p i = call-leaves (m .0) ∙ ap (λ (n : ℕ). placeAt n p i) j in
     let left : length (leave c .held) ≡ length i - recordLength * k = (λ x. length (e x .held)) ∙ length-drop (recordLength * k) i in
     let number : leave c .number ≡ p .number + k = λ x. e x .number in
     held-less (leave c) cs (m .1) (room .1) (omega arith) (omega (arith, length-append (leave c .held) later))

@@ -1,25 +1,22 @@
 -- The log does not depend on the pieces in which a capture is read.
-use mathlib.Core.Path.{_≡_, refl, sym, ap, ap₂, _∙_, subst}
+use mathlib.Core.Path.{_≡_, refl, sym, ap, ap₂, _∙_}
 use mathlib.Core.Bool.{Bool, true, false}
-use mathlib.Core.List.{List, [], _∷_, _++_, append-assoc, append-nil}
-use Prim.Native.Nat.{ℕ, zero, suc, _+_, _*_, _/_, _-_, _≤_, _<_, min}
-use native.Mathlib.Nat.{zero-add, min-eq-left, min-eq-right, le-min}
-use native.Mathlib.Numerals.{add-one}
+use mathlib.Core.List.{List, _++_, append-assoc, append-nil}
+use Prim.Native.Nat.{ℕ, _+_, _*_, _/_, _-_, _≤_, _<_}
 use native.Mathlib.Omega.{arith}
 use lib.ListN.{length, take, drop, getD, length-append, length-drop, List·getD-append}
-use lib.Seq.{take-all, take-append-le, drop-append-le, drop-drop, drop-at}
+use lib.Seq.{take-all, drop-at}
 use lib.Dec.{eqb}
 use borrow.Author.Tests.{eqb-true, eqb-false, lt-leb}
 use Rattle.wire.specs.Reply.{refused}
-use Rattle.wire.specs.BigEndian.{be16, be32, be16At}
+use Rattle.wire.specs.BigEndian.{be16, be32}
 use Rattle.slave.specs.Answer.{Report, Result, left}
 use Rattle.state.specs.declared.Slave.{Slave}
 use Rattle.slave.specs.Calls.{startOf}
 use Rattle.text.specs.Line.{refusalText, lineOf, endLine}
-use Rattle.text.specs.Rooms.{lineRoom}
 use Rattle.lines.specs.Log.{settingsLength, boardIn, begunBy, openedBy, openingOf, recordLength, recordOf, slaveAfter, linesOf, recordsIn, restOf, ifStarted, logOf}
 use Rattle.lines.specs.Pieces.{mostRecords, endingOf}
-use Rattle.lines.specs.Calls.{Call, Place, AllMade, AllRoom, came, written, placeAfter, startOfLog, Together}
+use Rattle.lines.specs.Calls.{Call, Place, AllMade, came, written, placeAfter, Together, begun, Read, endedAt, logBy}
 use Rattle.lines.proofs.Capture.{lines-then, record-cut, ending-empty, ending-cut, begun-long}
 use Rattle.lines.proofs.Calls.{calls-whole, held-less}
 
@@ -60,14 +57,14 @@ rest-then number s i k h =
 -- the calls, and `ending` where they leave the log
 pub calls-rest : (p : Place) (calls : List Call) → AllMade p calls → length (placeAfter p calls .held) < recordLength
     → p .number + recordsIn (length (p .held ++ came calls)) ≤ mostRecords
-    → written calls ++ endingOf (placeAfter p calls .number) (placeAfter p calls .held) ≡ restOf (p .number) (p .slave) (p .held ++ came calls)
+    → written calls ++ endedAt (placeAfter p calls) ≡ restOf (p .number) (p .slave) (p .held ++ came calls)
 calls-rest p calls m h l =
     let i : List ℕ = p .held ++ came calls in
     let k : ℕ = length i / recordLength in
     let t : Together k p calls = calls-whole p calls m h in
     let rest : List ℕ = drop (recordLength * k) i in
     let left : length rest ≡ length i - recordLength * k = length-drop (recordLength * k) i in
-    ap₂ (λ (x : List ℕ) (q : Place). x ++ endingOf (q .number) (q .held)) (t .lines) (t .place)
+    ap₂ (λ (x : List ℕ) (q : Place). x ++ endedAt q) (t .lines) (t .place)
     ∙ ap (λ (x : List ℕ). linesOf k (p .number) (p .slave) i ++ x) (ending-rest (p .number + k) (slaveAfter k (p .slave) i) rest (eqb (length rest) 0) refl (omega arith) (omega arith))
     ∙ rest-then (p .number) (p .slave) i k (t .whole)
 
@@ -93,20 +90,17 @@ module _ (h later : List ℕ) (nine : length h ≡ settingsLength) where
   unfolding openingOf
   opening-front = λ j. openedBy (board-front j) (begun-front j .reply)
 
--- a program that reads the settings and then any pieces prints the log of the whole capture
-pub log-in-pieces : (h : List ℕ) (calls : List Call) → length h ≡ settingsLength → AllMade (startOfLog h) calls → AllRoom calls
-    → recordsIn (length (came calls)) ≤ mostRecords
-    → openingOf h
-    ++ ifStarted (begunBy h .reply) (written calls ++ endingOf (placeAfter (startOfLog h) calls .number) (placeAfter (startOfLog h) calls .held))
-    ≡ logOf (h ++ came calls)
-unfolding logOf
-log-in-pieces h calls nine m room l =
+-- whatever the pieces in which a capture is read, the calls print the log of the whole capture
+pub log-in-pieces : (h : List ℕ) (calls : List Call) → Read h calls → logBy h calls ≡ logOf (h ++ came calls)
+unfolding logBy logOf
+log-in-pieces h calls r =
     let later : List ℕ = came calls in
-    ap (λ (x : List ℕ). openingOf h ++ ifStarted (begunBy h .reply) x) (calls-rest (startOfLog h) calls m (held-less (startOfLog h) calls m room (omega arith) (omega arith)) (omega arith))
+    let less = held-less (begun h) calls (r .made) (r .room) (omega arith) (omega (arith, r .counted)) in
+    ap (λ (x : List ℕ). openingOf h ++ ifStarted (begunBy h .reply) x) (calls-rest (begun h) calls (r .made) less (omega (arith, r .counted)))
     ∙ sym
     (λ j.
-    opening-front h later nine j
-    ++ ifStarted (begun-front h later nine j .reply) (restOf 0 (begun-front h later nine j .slave) (drop-at h later settingsLength nine j)))
+    opening-front h later (r .nine) j
+    ++ ifStarted (begun-front h later (r .nine) j .reply) (restOf 0 (begun-front h later (r .nine) j .slave) (drop-at h later settingsLength (r .nine) j)))
 
 -- short settings print the refusal alone
 pub log-short : (h : List ℕ) → length h < settingsLength → logOf h ≡ refusalText 15

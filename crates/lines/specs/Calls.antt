@@ -5,11 +5,11 @@ use mathlib.Core.List.{List, [], _∷_, _++_}
 use lib.ListN.{length, take, drop}
 use Rattle.state.specs.declared.Slave.{Slave}
 use Rattle.text.specs.Rooms.{lineRoom}
-use Rattle.lines.specs.Log.{begunBy, recordLength, slaveAfter, linesOf}
-use Rattle.lines.specs.Pieces.{TakesPiece}
+use Rattle.lines.specs.Log.{settingsLength, begunBy, openingOf, recordLength, slaveAfter, linesOf, recordsIn, ifStarted}
+use Rattle.lines.specs.Pieces.{mostRecords, TakesPiece, endingOf}
 use Rattle.lines.specs.declared.Held.{Held}
 
--- a call: the bytes that came since the last one, the buffers before and after it, how much of the input it is to take, and its answer
+-- a call: the bytes that came since the last one, how many bytes of the input it takes, the buffers before and after it, and its answer
 pub record Call : Type 0 where
   pub piece : List ℕ
   pub n : ℕ
@@ -25,23 +25,21 @@ pub record Place : Type 0 where
   pub number : ℕ
   pub held : List ℕ
 
+-- where a call leaves it: the first bytes of the input are held
 abbrev pub leave : Call → Place
 leave c = record { slave = c .answer .slave; number = c .answer .number; held = take (c .answer .held) (c .input′) }
 
--- where it stands behind the settings h
-abbrev pub startOfLog : List ℕ → Place
-startOfLog h = record { slave = begunBy h .slave; number = 0; held = [] }
-
--- what is asked of a call at a place: it is given what is held and then the new bytes; and it keeps its contract
+-- what is asked of a call: it is given what is held and then the bytes that came, and it keeps its contract
 pub record Made (p : Place) (c : Call) : Type 0 where
   pub given : take (c .n) (c .input) ≡ p .held ++ c .piece
   pub kept : TakesPiece (p .slave) (p .number) (c .n) (c .input) (c .input′) (c .output) (c .output′) (c .answer)
 
+-- and of more calls: each begins where the last one left the log
 abbrev pub AllMade : Place → List Call → Type 0
 AllMade p [] = Unit {0}
 AllMade p (c ∷ cs) = Made p c × AllMade (leave c) cs
 
--- where there is room for all: the output of each call has room for the lines of the records that are whole in what it is given
+-- the output has room for the lines of all records that are whole in what the call is given
 abbrev pub Room : Call → Type 0
 Room c = lineRoom * (length (take (c .n) (c .input)) / recordLength) ≤ length (c .output)
 
@@ -71,3 +69,23 @@ pub record Together (k : ℕ) (p : Place) (calls : List Call) : Type 0 where
   pub whole : recordLength * k ≤ length (p .held ++ came calls)
   pub lines : written calls ≡ linesOf k (p .number) (p .slave) (p .held ++ came calls)
   pub place : placeAfter p calls ≡ placeAt k p (p .held ++ came calls)
+
+-- ---- a whole log
+
+-- behind the settings h no record is read yet
+abbrev pub begun : List ℕ → Place
+begun h = record { slave = begunBy h .slave; number = 0; held = [] }
+
+-- what is asked: nine bytes of settings, the calls from there on, room for all lines, and no more records than can be counted
+pub record Read (h : List ℕ) (calls : List Call) : Type 0 where
+  pub nine : length h ≡ settingsLength
+  pub made : AllMade (begun h) calls
+  pub room : AllRoom calls
+  pub counted : recordsIn (length (came calls)) ≤ mostRecords
+
+-- what is printed: what `begin` writes, then, where it started the slave, what the calls and `ending` write
+abbrev pub endedAt : Place → List ℕ
+endedAt p = endingOf (p .number) (p .held)
+
+unfoldable pub logBy : List ℕ → List Call → List ℕ
+logBy h calls = openingOf h ++ ifStarted (begunBy h .reply) (written calls ++ endedAt (placeAfter (begun h) calls))

@@ -23,11 +23,11 @@ unfoldable pub handledIn : ℕ → ℕ → ℕ → ℕ
 handledIn bytes room number = min (bytes / recordLength) (min (room / lineRoom) (mostRecords - number))
 
 -- what a call leaves that handles the first k records of an input: the slave, the next record's number and the lines
-pub record Handled (s : Slave) (number : ℕ) (i : List ℕ) (k : ℕ) (out out′ : List ℕ) (r : Piece) : Type 0 where
-  pub slave : r .slave ≡ slaveAfter k s i
-  pub next : r .number ≡ number + k
-  pub used : r .used ≡ recordLength * k
-  pub lines : Fronts (linesOf k number s i) out out′ (r .filled)
+pub record Handled (s : Slave) (number : ℕ) (i : List ℕ) (k : ℕ) (out out′ : List ℕ) (p : Piece) : Type 0 where
+  pub slave : p .slave ≡ slaveAfter k s i
+  pub next : p .number ≡ number + k
+  pub used : p .used ≡ recordLength * k
+  pub lines : Fronts (linesOf k number s i) out out′ (p .filled)
 
 -- and where the input is a piece that stands in a buffer d: what is left of it stands at the front of d
 pub record PieceTaken (s : Slave) (number : ℕ) (i : List ℕ) (k : ℕ) (d d′ out out′ : List ℕ) (r : Held) : Type 0 where
