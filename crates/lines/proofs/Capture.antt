@@ -1,15 +1,13 @@
 -- Laws of records: where a record's bytes lie in an input, and some records and then more.
-use mathlib.Core.Path.{_≡_, refl, sym, ap, ap₂, _∙_, subst}
-use mathlib.Core.Bool.{Bool, true, false}
-use mathlib.Core.List.{List, [], _∷_, _++_, append-assoc, append-nil}
+use mathlib.Core.Path.{_≡_, sym, ap, ap₂, _∙_, subst}
+use mathlib.Core.List.{List, _++_, append-assoc, append-nil}
 use Prim.Native.Nat.{ℕ, zero, suc, _+_, _-_, _*_, _/_, _≤_, _<_, min}
-use native.Mathlib.Nat.{min-le-left, min-le-right, min-eq-left, min-eq-right, zero-add}
+use native.Mathlib.Nat.{min-le-left, min-le-right, zero-add}
 use native.Mathlib.Numerals.{add-one}
 use native.Mathlib.Omega.{arith}
 use lib.ListN.{length, take, drop, length-drop}
-use lib.Dec.{leb}
-use lib.Seq.{length-take-le, take-length, take-all, drop-drop}
-use borrow.Author.Tests.{eq-eqb, ne-eqb, le-leb, lt-leb, leb-true, leb-false}
+use lib.Seq.{length-take-le, take-all, drop-drop}
+use borrow.Author.Tests.{eq-eqb, ne-eqb, le-leb, lt-leb}
 use Rattle.wire.specs.Reply.{refused}
 use Rattle.wire.specs.BigEndian.{be32At}
 use Rattle.state.specs.Slave.{cold}
@@ -18,10 +16,10 @@ use Rattle.slave.specs.Answer.{Report, Result, left}
 use Rattle.slave.specs.Calls.{startOf, packetOf}
 use Rattle.text.specs.Rooms.{lineRoom}
 use Rattle.text.specs.Line.{lineOf, endLine}
-use Rattle.text.specs.Puts.{Fronts, Puts}
+use Rattle.text.specs.Puts.{Puts}
 use Rattle.text.proofs.Putting.{retext, refront, front-then}
 use Rattle.lines.specs.Log.{settingsLength, boardIn, begunBy, tickLength, recordLength, recordOf, firstOf, slaveAfter, linesOf}
-use Rattle.lines.specs.Pieces.{mostRecords, handledIn, Handled, PieceTaken, endingOf}
+use Rattle.lines.specs.Pieces.{mostRecords, handledIn, Handled, endingOf}
 use Rattle.lines.specs.declared.Piece.{Piece}
 
 -- the settings at the front
@@ -151,28 +149,3 @@ handled-more {s} {number} {i} {k} {p = p} {tick = tick} {q = q} h room ticks pac
 -- the same, said of another count
 pub handled-same : {s : Slave} {number : ℕ} {i : List ℕ} {j k : ℕ} {out out′ : List ℕ} {r : Piece} → j ≡ k → Handled s number i j out out′ r → Handled s number i k out out′ r
 handled-same {s} {number} {i} {out = out} {out′ = out′} {r = r} e p = subst (λ (n : ℕ). Handled s number i n out out′ r) e p
-
-take-min-by : (n : ℕ) (d : List ℕ) (b : Bool) → leb n (length d) ≡ b → take (min n (length d)) d ≡ take n d
-take-min-by n d true e = ap (λ (k : ℕ). take k d) (min-eq-left (leb-true n (length d) e))
-take-min-by n d false e =
-    let h : length d < n = leb-false n (length d) e in
-    ap (λ (k : ℕ). take k d) (min-eq-right {n = length d} {m = n} (omega arith)) ∙ take-length d ∙ sym (take-all n d (omega arith))
-
--- the piece in the first n bytes ends where the buffer ends
-pub take-min : (n : ℕ) (d : List ℕ) → take (min n (length d)) d ≡ take n d
-take-min n d = take-min-by n d (leb n (length d)) refl
-
--- what is used of a piece lies within it
-pub used-within : {s : Slave} {number : ℕ} {i out out′ : List ℕ} {p : Piece} → Handled s number i (handledIn (length i) (length out) number) out out′ p → p .used ≤ length i
-used-within {number = number} {i = i} {out = out} h = omega (arith, h .used, handled-bytes (length i) (length out) number)
-
--- a piece in the first n bytes of a buffer is handled, and what is left of it carried to the front
-pub piece-taken : (n : ℕ) {s : Slave} {number e : ℕ} {d d′ out out′ : List ℕ} {p : Piece} {held : ℕ} → e ≡ min n (length d)
-    → Handled s number (take e d) (handledIn (length (take e d)) (length out) number) out out′ p
-    → Fronts (drop (p .used) (take e d)) d d′ held
-    → PieceTaken s number (take n d) (handledIn (length (take n d)) (length out) number) d d′ out out′
-    (record { slave = p .slave; number = p .number; filled = p .filled; held = held })
-piece-taken n {s} {number} {e} {d} {d′} {out} {out′} {p} least handled carried =
-    let same : take e d ≡ take n d = ap (λ (k : ℕ). take k d) least ∙ take-min n d in
-    let h = subst (λ (x : List ℕ). Handled s number x (handledIn (length x) (length out) number) out out′ p) same handled in
-    record { slave = h .slave; next = h .next; lines = h .lines; rest = refront (λ j. drop (h .used j) (same j)) carried }

@@ -2,9 +2,9 @@
 use mathlib.Core.Path.{_≡_}
 use Prim.Native.Nat.{ℕ, suc, _+_, _*_, _-_, _/_, min}
 use mathlib.Core.Bool.{cond, _||_}
-use mathlib.Core.List.{List, [], _∷_, _++_}
+use mathlib.Core.List.{List, _++_}
 use lib.Dec.{eqb}
-use lib.ListN.{length, drop}
+use lib.ListN.{length, take, drop}
 use Rattle.wire.specs.Reply.{refused}
 use Rattle.state.specs.declared.Slave.{Slave}
 use Rattle.text.specs.Line.{lineOf, endLine}
@@ -23,11 +23,11 @@ unfoldable pub handledIn : ℕ → ℕ → ℕ → ℕ
 handledIn bytes room number = min (bytes / recordLength) (min (room / lineRoom) (mostRecords - number))
 
 -- what a call leaves that handles the first k records of an input: the slave, the next record's number and the lines
-pub record Handled (s : Slave) (number : ℕ) (i : List ℕ) (k : ℕ) (out out′ : List ℕ) (r : Piece) : Type 0 where
-  pub slave : r .slave ≡ slaveAfter k s i
-  pub next : r .number ≡ number + k
-  pub used : r .used ≡ recordLength * k
-  pub lines : Fronts (linesOf k number s i) out out′ (r .filled)
+pub record Handled (s : Slave) (number : ℕ) (i : List ℕ) (k : ℕ) (out out′ : List ℕ) (p : Piece) : Type 0 where
+  pub slave : p .slave ≡ slaveAfter k s i
+  pub next : p .number ≡ number + k
+  pub used : p .used ≡ recordLength * k
+  pub lines : Fronts (linesOf k number s i) out out′ (p .filled)
 
 -- and where the input is a piece that stands in a buffer d: what is left of it stands at the front of d
 pub record PieceTaken (s : Slave) (number : ℕ) (i : List ℕ) (k : ℕ) (d d′ out out′ : List ℕ) (r : Held) : Type 0 where
@@ -36,23 +36,13 @@ pub record PieceTaken (s : Slave) (number : ℕ) (i : List ℕ) (k : ℕ) (d d�
   pub lines : Fronts (linesOf k number s i) out out′ (r .filled)
   pub rest : Fronts (drop (recordLength * k) i) d d′ (r .held)
 
+-- the contract of `take_piece`: the piece stands in the first n bytes of d, and as many of its records are handled as can be
+abbrev pub TakesPiece : Slave → ℕ → ℕ → (d d′ out out′ : List ℕ) → Held → Type 0
+TakesPiece s number n d d′ out out′ r = PieceTaken s number (take n d) (handledIn (length (take n d)) (length out) number) d d′ out out′ r
+
 -- the end: bytes that are left are a record cut short, and count
 unfoldable pub endingOf : ℕ → List ℕ → List ℕ
 endingOf number rest =
     cond (eqb (length rest) 0 || eqb number mostRecords)
     (endLine number)
     (lineOf number (refused 1) ++ endLine (suc number))
-
--- all that a program writes after the opening that reads a capture in some pieces: for each, the lines of the records that are whole in
--- what is left of the pieces before and in this one; then the end
-unfoldable pub inPieces : ℕ → Slave → List ℕ → List (List ℕ) → List ℕ
-inPieces number s held [] = endingOf number held
-inPieces number s held (piece ∷ pieces) =
-    let i : List ℕ = held ++ piece in
-    let k : ℕ = length i / recordLength in
-    linesOf k number s i ++ inPieces (number + k) (slaveAfter k s i) (drop (recordLength * k) i) pieces
-
--- the pieces one behind the other
-unfoldable pub joined : List (List ℕ) → List ℕ
-joined [] = []
-joined (piece ∷ pieces) = piece ++ joined pieces

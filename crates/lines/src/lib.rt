@@ -10,7 +10,7 @@ ghost use lib.ListN.{length, take, drop};
 ghost use Rattle.slave.specs.Answer.{outcomeOf, shiftedOf};
 ghost use Rattle.text.specs.Puts.{Fronts};
 ghost use Rattle.lines.specs.Log.{boardIn, begunBy, openedBy, openingOf};
-ghost use Rattle.lines.specs.Pieces.{handledIn, Handled, PieceTaken, endingOf};
+ghost use Rattle.lines.specs.Pieces.{handledIn, Handled, TakesPiece, endingOf};
 
 // The bytes of a capture's settings, and of a record with its tick: specs/Log.antt.
 pub const SETTINGS_LENGTH: usize = 9;
@@ -163,7 +163,7 @@ fn carry(buf: &mut [u8], from: usize, to: usize) -> usize
 // A piece of a capture stands in the first n bytes of the input: writes the lines of its whole records, and moves what is left of it to the
 // front. An n beyond the input is the whole input.
 pub fn take_piece(s: Slave, number: u64, n: usize, input: &mut [u8], out: &mut [u8]) -> Held
-    ensures { λ r. ⌜ PieceTaken s number (take n (now (input .entry))) (handledIn (length (take n (now (input .entry)))) (length (now (out .entry))) number) (now (input .entry)) (now (input .exit)) (now (out .entry)) (now (out .exit)) r ⌝ }
+    ensures { λ r. ⌜ TakesPiece s number n (now (input .entry)) (now (input .exit)) (now (out .entry)) (now (out .exit)) r ⌝ }
 {
     let end = least(n, input.len());
     let p = records(s, number, &input[..end], out);

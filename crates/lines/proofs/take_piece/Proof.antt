@@ -7,7 +7,7 @@ use native.Mathlib.Omega.{arith}
 use lib.ListN.{length}
 use lib.Seq.{length-take-le}
 use denote.Ref.{now}
-use Rattle.lines.proofs.Capture.{used-within, piece-taken}
+use Rattle.lines.proofs.Taking.{used-within, piece-taken}
 use Rattle.lines.proofs.take_piece.Statement.{statement}
 use Rattle.lines.proofs.take_piece.Tie as tie
 
