@@ -10,17 +10,17 @@ use Rattle.state.specs.declared.Slave.{Slave}
 use Rattle.text.specs.Line.{lineOf}
 use Rattle.text.specs.Rooms.{lineRoom}
 use Rattle.text.proofs.Putting.{fronts-read}
-use Rattle.lines.specs.Log.{recordLength, recordOf, slaveAfter, linesOf}
+use Rattle.lines.specs.Log.{recordLength, recordOf, slaveBehind, linesOf}
 use Rattle.lines.specs.Pieces.{mostRecords, handledIn, PieceTaken}
 use Rattle.lines.specs.Calls.{Call, Place, leave, Made, AllMade, AllRoom, came, written, placeAfter, placeAt, Together}
 use Rattle.lines.proofs.Capture.{slave-then, lines-then, handled-bytes}
 
 -- bytes that come later do not change the records that are whole
-pub slave-early : (k : ℕ) (s : Slave) (i later : List ℕ) → recordLength * k ≤ length i → slaveAfter k s (i ++ later) ≡ slaveAfter k s i
-unfolding slaveAfter
+pub slave-early : (k : ℕ) (s : Slave) (i later : List ℕ) → recordLength * k ≤ length i → slaveBehind k s (i ++ later) ≡ slaveBehind k s i
+unfolding slaveBehind
 slave-early zero s i later h = refl
 slave-early (suc k) s i later h =
-    ap₂ (λ (r x : List ℕ). slaveAfter k (recordOf s r .slave) x) (take-append-le recordLength i later (omega arith)) (drop-append-le recordLength i later (omega arith))
+    ap₂ (λ (r x : List ℕ). slaveBehind k (recordOf s r .slave) x) (take-append-le recordLength i later (omega arith)) (drop-append-le recordLength i later (omega arith))
     ∙ slave-early k (recordOf s (take recordLength i) .slave) (drop recordLength i) later (omega (arith, length-drop recordLength i))
 
 pub lines-early : (k number : ℕ) (s : Slave) (i later : List ℕ) → recordLength * k ≤ length i → linesOf k number s (i ++ later) ≡ linesOf k number s i
@@ -44,8 +44,8 @@ module _ (p : Place) (i later : List ℕ) (j k : ℕ) (h : recordLength * j ≤ 
 
   place-later : placeAt k (placeAt j p i) (placeAt j p i .held ++ later) ≡ placeAt (j + k) p (i ++ later)
   place-later =
-      let slave : slaveAfter (j + k) (p .slave) (i ++ later) ≡ slaveAfter k (slaveAfter j (p .slave) i) (drop (recordLength * j) i ++ later) =
-      slave-then j k (p .slave) (i ++ later) ∙ (λ x. slaveAfter k (slave-early j (p .slave) i later h x) (left x)) in
+      let slave : slaveBehind (j + k) (p .slave) (i ++ later) ≡ slaveBehind k (slaveBehind j (p .slave) i) (drop (recordLength * j) i ++ later) =
+      slave-then j k (p .slave) (i ++ later) ∙ (λ x. slaveBehind k (slave-early j (p .slave) i later h x) (left x)) in
       let number : p .number + (j + k) ≡ p .number + j + k = omega arith in
       let bytes : recordLength * (j + k) ≡ recordLength * j + recordLength * k = omega arith in
       let held : drop (recordLength * (j + k)) (i ++ later) ≡ drop (recordLength * k) (drop (recordLength * j) i ++ later) =
@@ -94,7 +94,7 @@ module _ {p : Place} {c : Call} (made : Made p c) where
 
 -- whatever the room, no byte is lost and none is taken twice: the calls together handle so many records of all bytes, from the first on
 pub calls-together : (p : Place) (calls : List Call) → AllMade p calls → (k : ℕ) × Together k p calls
-unfolding came written placeAfter slaveAfter linesOf
+unfolding came written placeAfter slaveBehind linesOf
 calls-together p [] m =
     let n : p .number ≡ p .number + 0 = omega arith in
     (0, record { whole = omega arith; lines = refl; place = λ x. record { slave = p .slave; number = n x; held = sym (append-nil (p .held)) x } })

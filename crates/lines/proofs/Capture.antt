@@ -18,7 +18,7 @@ use Rattle.text.specs.Rooms.{lineRoom}
 use Rattle.text.specs.Line.{lineOf, endLine}
 use Rattle.text.specs.Puts.{Puts}
 use Rattle.text.proofs.Putting.{retext, refront, front-then}
-use Rattle.lines.specs.Log.{settingsLength, boardIn, begunBy, tickLength, recordLength, recordOf, firstOf, slaveAfter, linesOf}
+use Rattle.lines.specs.Log.{settingsLength, boardIn, begunBy, tickLength, recordLength, recordOf, firstOf, slaveBehind, linesOf}
 use Rattle.lines.specs.Pieces.{mostRecords, handledIn, Handled, endingOf}
 use Rattle.lines.specs.declared.Piece.{Piece}
 
@@ -47,19 +47,19 @@ next-at j i =
     drop-drop (recordLength * j) recordLength i ∙ ap (λ (n : ℕ). drop n i) e
 
 -- j records and then k more are j + k records
-pub slave-then : (j k : ℕ) (s : Slave) (i : List ℕ) → slaveAfter (j + k) s i ≡ slaveAfter k (slaveAfter j s i) (drop (recordLength * j) i)
-unfolding slaveAfter
-slave-then zero k s i = ap (λ (n : ℕ). slaveAfter n s i) (zero-add k)
+pub slave-then : (j k : ℕ) (s : Slave) (i : List ℕ) → slaveBehind (j + k) s i ≡ slaveBehind k (slaveBehind j s i) (drop (recordLength * j) i)
+unfolding slaveBehind
+slave-then zero k s i = ap (λ (n : ℕ). slaveBehind n s i) (zero-add k)
 slave-then (suc j) k s i =
     let e : suc j + k ≡ suc (j + k) = omega arith in
     let t : Slave = recordOf s (firstOf i) .slave in
-    ap (λ (n : ℕ). slaveAfter n s i) e
+    ap (λ (n : ℕ). slaveBehind n s i) e
     ∙ slave-then j k t (drop recordLength i)
-    ∙ ap (slaveAfter k (slaveAfter j t (drop recordLength i))) (next-at j i)
+    ∙ ap (slaveBehind k (slaveBehind j t (drop recordLength i))) (next-at j i)
 
 pub lines-then : (j k number : ℕ) (s : Slave) (i : List ℕ)
-    → linesOf (j + k) number s i ≡ linesOf j number s i ++ linesOf k (number + j) (slaveAfter j s i) (drop (recordLength * j) i)
-unfolding linesOf slaveAfter
+    → linesOf (j + k) number s i ≡ linesOf j number s i ++ linesOf k (number + j) (slaveBehind j s i) (drop (recordLength * j) i)
+unfolding linesOf slaveBehind
 lines-then zero k number s i =
     let e : number ≡ number + 0 = omega arith in
     ap₂ (λ (m n : ℕ). linesOf m n s i) (zero-add k) e
@@ -71,18 +71,18 @@ lines-then (suc j) k number s i =
     let g : suc number + j ≡ number + suc j = omega arith in
     ap (λ (n : ℕ). linesOf n number s i) e
     ∙ ap (λ (x : List ℕ). l ++ x) (lines-then j k (suc number) t rest)
-    ∙ sym (append-assoc l (linesOf j (suc number) t rest) (linesOf k (suc number + j) (slaveAfter j t rest) (drop (recordLength * j) rest)))
-    ∙ ap₂ (λ (n : ℕ) (x : List ℕ). l ++ linesOf j (suc number) t rest ++ linesOf k n (slaveAfter j t rest) x) g (next-at j i)
+    ∙ sym (append-assoc l (linesOf j (suc number) t rest) (linesOf k (suc number + j) (slaveBehind j t rest) (drop (recordLength * j) rest)))
+    ∙ ap₂ (λ (n : ℕ) (x : List ℕ). l ++ linesOf j (suc number) t rest ++ linesOf k n (slaveBehind j t rest) x) g (next-at j i)
 
 -- and one record more
 pub line-more : (k number : ℕ) (s : Slave) (i : List ℕ)
-    → linesOf k number s i ++ lineOf (number + k) (recordOf (slaveAfter k s i) (firstOf (drop (recordLength * k) i)) .reply) ≡ linesOf (k + 1) number s i
+    → linesOf k number s i ++ lineOf (number + k) (recordOf (slaveBehind k s i) (firstOf (drop (recordLength * k) i)) .reply) ≡ linesOf (k + 1) number s i
 unfolding linesOf
 line-more k number s i =
-    sym (lines-then k 1 number s i ∙ ap (λ (x : List ℕ). linesOf k number s i ++ x) (append-nil (lineOf (number + k) (recordOf (slaveAfter k s i) (firstOf (drop (recordLength * k) i)) .reply))))
+    sym (lines-then k 1 number s i ∙ ap (λ (x : List ℕ). linesOf k number s i ++ x) (append-nil (lineOf (number + k) (recordOf (slaveBehind k s i) (firstOf (drop (recordLength * k) i)) .reply))))
 
-pub slave-more : (k : ℕ) (s : Slave) (i : List ℕ) → recordOf (slaveAfter k s i) (firstOf (drop (recordLength * k) i)) .slave ≡ slaveAfter (k + 1) s i
-unfolding slaveAfter
+pub slave-more : (k : ℕ) (s : Slave) (i : List ℕ) → recordOf (slaveBehind k s i) (firstOf (drop (recordLength * k) i)) .slave ≡ slaveBehind (k + 1) s i
+unfolding slaveBehind
 slave-more k s i = sym (slave-then k 1 s i)
 
 -- how many records are handled
@@ -137,7 +137,7 @@ pub handled-more : {s : Slave} {number : ℕ} {i : List ℕ} {k : ℕ} {out d d�
     → Puts lineRoom d (p .filled) (lineOf (p .number) (q .reply)) d′ end
     → Handled s number i (k + 1) out d′ (record { slave = q .slave; number = p .number + 1; used = p .used + recordLength; filled = end })
 handled-more {s} {number} {i} {k} {p = p} {tick = tick} {q = q} h room ticks packet put =
-    let same : q ≡ recordOf (slaveAfter k s i) (firstOf (drop (recordLength * k) i)) =
+    let same : q ≡ recordOf (slaveBehind k s i) (firstOf (drop (recordLength * k) i)) =
     packet ∙ record-there i (p .used) tick (p .slave) room ticks ∙ (λ j. recordOf (h .slave j) (firstOf (drop (h .used j) i))) in
     record {
       slave = (λ j. same j .slave) ∙ slave-more k s i;

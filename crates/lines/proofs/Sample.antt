@@ -15,7 +15,7 @@ use Rattle.slave.specs.Calls.{startOf, packetOf}
 use Rattle.text.specs.Decimal.{decimalIn, decimal}
 use Rattle.text.specs.Rooms.{lineRoom}
 use Rattle.text.specs.Line.{lineOf, siteLine, endLine}
-use Rattle.lines.specs.Log.{begunBy, openingOf, recordOf, slaveAfter, linesOf, restOf, logOf}
+use Rattle.lines.specs.Log.{begunBy, openingOf, recordOf, slaveBehind, linesOf, restOf, logOf}
 use Rattle.lines.specs.Pieces.{handledIn, endingOf}
 use Rattle.lines.specs.Calls.{Call, came, written, placeAfter, Read, logBy}
 
@@ -95,7 +95,7 @@ pub record Computed (h : List ℕ) (calls : List Call) (input output : List ℕ)
   pub printed : logBy h calls ≡ output
 
 pub in-two : Computed settings calls capture printed
-unfolding logBy came written placeAfter endingOf handledIn slaveAfter linesOf openingOf begunBy startOf settingsKept admits isMegaFrame atSomeRate second recordOf packetOf sound partsFit huntingFits isUnset isNothing isZero arrivalRefusal judgeArrived carries stepOf counted unheard lineOf siteLine endLine decimal decimalIn
+unfolding logBy came written placeAfter endingOf handledIn slaveBehind linesOf openingOf begunBy startOf settingsKept admits isMegaFrame atSomeRate second recordOf packetOf sound partsFit huntingFits isUnset isNothing isZero arrivalRefusal judgeArrived carries stepOf counted unheard lineOf siteLine endLine decimal decimalIn
 in-two =
     record {
       read =

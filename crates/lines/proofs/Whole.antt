@@ -14,7 +14,7 @@ use Rattle.slave.specs.Answer.{Report, Result, left}
 use Rattle.state.specs.declared.Slave.{Slave}
 use Rattle.slave.specs.Calls.{startOf}
 use Rattle.text.specs.Line.{refusalText, lineOf, endLine}
-use Rattle.lines.specs.Log.{settingsLength, boardIn, begunBy, openedBy, openingOf, recordLength, recordOf, slaveAfter, linesOf, recordsIn, restOf, ifStarted, logOf}
+use Rattle.lines.specs.Log.{settingsLength, boardIn, begunBy, openedBy, openingOf, recordLength, recordOf, slaveBehind, linesOf, recordsIn, restOf, ifStarted, logOf}
 use Rattle.lines.specs.Pieces.{mostRecords, endingOf}
 use Rattle.lines.specs.Calls.{Call, Place, AllMade, came, written, placeAfter, Together, begun, Read, endedAt, logBy}
 use Rattle.lines.proofs.Capture.{lines-then, record-cut, ending-empty, ending-cut, begun-long}
@@ -43,14 +43,14 @@ ending-rest number s held false e h l =
 
 -- whole records first, then the rest
 rest-then : (number : ℕ) (s : Slave) (i : List ℕ) (k : ℕ) → recordLength * k ≤ length i
-    → linesOf k number s i ++ restOf (number + k) (slaveAfter k s i) (drop (recordLength * k) i) ≡ restOf number s i
+    → linesOf k number s i ++ restOf (number + k) (slaveBehind k s i) (drop (recordLength * k) i) ≡ restOf number s i
 unfolding restOf
 rest-then number s i k h =
     let rest : List ℕ = drop (recordLength * k) i in
     let r : ℕ = recordsIn (length rest) in
     let e : k + r ≡ recordsIn (length i) = omega (arith, length-drop (recordLength * k) i) in
     let f : number + k + r ≡ number + (k + r) = omega arith in
-    sym (append-assoc (linesOf k number s i) (linesOf r (number + k) (slaveAfter k s i) rest) (endLine (number + k + r)))
+    sym (append-assoc (linesOf k number s i) (linesOf r (number + k) (slaveBehind k s i) rest) (endLine (number + k + r)))
     ∙ ap₂ (λ (x : List ℕ) (n : ℕ). x ++ endLine n) (sym (lines-then k r number s i)) f
     ∙ ap (λ (n : ℕ). linesOf n number s i ++ endLine (number + n)) e
 
@@ -65,7 +65,7 @@ calls-rest p calls m h l =
     let rest : List ℕ = drop (recordLength * k) i in
     let left : length rest ≡ length i - recordLength * k = length-drop (recordLength * k) i in
     ap₂ (λ (x : List ℕ) (q : Place). x ++ endedAt q) (t .lines) (t .place)
-    ∙ ap (λ (x : List ℕ). linesOf k (p .number) (p .slave) i ++ x) (ending-rest (p .number + k) (slaveAfter k (p .slave) i) rest (eqb (length rest) 0) refl (omega arith) (omega arith))
+    ∙ ap (λ (x : List ℕ). linesOf k (p .number) (p .slave) i ++ x) (ending-rest (p .number + k) (slaveBehind k (p .slave) i) rest (eqb (length rest) 0) refl (omega arith) (omega arith))
     ∙ rest-then (p .number) (p .slave) i k (t .whole)
 
 -- the settings are the first nine bytes, whatever follows

@@ -5,7 +5,7 @@ use mathlib.Core.List.{List, [], _∷_, _++_}
 use lib.ListN.{length, take, drop}
 use Rattle.state.specs.declared.Slave.{Slave}
 use Rattle.text.specs.Rooms.{lineRoom}
-use Rattle.lines.specs.Log.{settingsLength, begunBy, openingOf, recordLength, slaveAfter, linesOf, recordsIn, ifStarted}
+use Rattle.lines.specs.Log.{settingsLength, begunBy, openingOf, recordLength, slaveBehind, linesOf, recordsIn, ifStarted}
 use Rattle.lines.specs.Pieces.{mostRecords, TakesPiece, endingOf}
 use Rattle.lines.specs.declared.Held.{Held}
 
@@ -62,7 +62,7 @@ placeAfter p (c ∷ cs) = placeAfter (leave c) cs
 
 -- where the first k records of an input lead
 abbrev pub placeAt : ℕ → Place → List ℕ → Place
-placeAt k p i = record { slave = slaveAfter k (p .slave) i; number = p .number + k; held = drop (recordLength * k) i }
+placeAt k p i = record { slave = slaveBehind k (p .slave) i; number = p .number + k; held = drop (recordLength * k) i }
 
 -- the calls together handle the first k records of all bytes: what was held, and what came
 pub record Together (k : ℕ) (p : Place) (calls : List Call) : Type 0 where

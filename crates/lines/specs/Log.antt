@@ -48,9 +48,9 @@ abbrev pub firstOf : List ℕ → List ℕ
 firstOf i = take recordLength i
 
 -- the slave after the first k records of an input
-unfoldable pub slaveAfter : ℕ → Slave → List ℕ → Slave
-slaveAfter zero s i = s
-slaveAfter (suc k) s i = slaveAfter k (recordOf s (firstOf i) .slave) (drop recordLength i)
+unfoldable pub slaveBehind : ℕ → Slave → List ℕ → Slave
+slaveBehind zero s i = s
+slaveBehind (suc k) s i = slaveBehind k (recordOf s (firstOf i) .slave) (drop recordLength i)
 
 -- the lines of the first k records, numbered from `number` on
 unfoldable pub linesOf : ℕ → ℕ → Slave → List ℕ → List ℕ

@@ -10,7 +10,7 @@ use Rattle.state.specs.declared.Slave.{Slave}
 use Rattle.text.specs.Line.{lineOf, endLine}
 use Rattle.text.specs.Rooms.{lineRoom}
 use Rattle.text.specs.Puts.{Fronts}
-use Rattle.lines.specs.Log.{recordLength, slaveAfter, linesOf}
+use Rattle.lines.specs.Log.{recordLength, slaveBehind, linesOf}
 use Rattle.lines.specs.declared.Piece.{Piece}
 use Rattle.lines.specs.declared.Held.{Held}
 
@@ -24,14 +24,14 @@ handledIn bytes room number = min (bytes / recordLength) (min (room / lineRoom) 
 
 -- what a call leaves that handles the first k records of an input: the slave, the next record's number and the lines
 pub record Handled (s : Slave) (number : ℕ) (i : List ℕ) (k : ℕ) (out out′ : List ℕ) (p : Piece) : Type 0 where
-  pub slave : p .slave ≡ slaveAfter k s i
+  pub slave : p .slave ≡ slaveBehind k s i
   pub next : p .number ≡ number + k
   pub used : p .used ≡ recordLength * k
   pub lines : Fronts (linesOf k number s i) out out′ (p .filled)
 
 -- and where the input is a piece that stands in a buffer d: what is left of it stands at the front of d
 pub record PieceTaken (s : Slave) (number : ℕ) (i : List ℕ) (k : ℕ) (d d′ out out′ : List ℕ) (r : Held) : Type 0 where
-  pub slave : r .slave ≡ slaveAfter k s i
+  pub slave : r .slave ≡ slaveBehind k s i
   pub next : r .number ≡ number + k
   pub lines : Fronts (linesOf k number s i) out out′ (r .filled)
   pub rest : Fronts (drop (recordLength * k) i) d d′ (r .held)

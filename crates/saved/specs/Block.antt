@@ -41,8 +41,8 @@ unfoldable pub saveOf : Slave → List ℕ → Output
 saveOf s out = filled (saveRefusal s (length out)) out (blockOf s ++ drop blockLength out)
 
 -- what a save leaves
-abbrev pub outputOf : Outcome → List ℕ → Output
-outputOf r out = record { reply = outcomeOf r; bytes = out }
+abbrev pub savedOutput : Outcome → List ℕ → Output
+savedOutput r out = record { reply = outcomeOf r; bytes = out }
 
 -- ---- resume
 

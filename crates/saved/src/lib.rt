@@ -12,7 +12,7 @@ ghost use Rattle.wire.specs.Reply.{refused};
 ghost use Rattle.state.specs.Slave.{hunting};
 ghost use Rattle.slave.specs.Answer.{left, shiftedOf};
 ghost use Rattle.saved.specs.Layout.{byte, pair, word, bodyFields, putIn, putAll, slaveIn};
-ghost use Rattle.saved.specs.Block.{saveOf, outputOf, trailer, distance, shaped, fromBody, held, blockFits, sameBoard, resumeOf};
+ghost use Rattle.saved.specs.Block.{saveOf, savedOutput, trailer, distance, shaped, fromBody, held, blockFits, sameBoard, resumeOf};
 
 // The bytes of a body, of a trailer, and of the block that a save writes.
 const BODY_LENGTH: usize = 30;
@@ -61,7 +61,7 @@ fn put_body(out: &mut [u8], s: Slave)
 
 // Saves a slave into the first bytes of a lent buffer; a refusal leaves it as it was.
 pub fn save(s: Slave, out: &mut [u8]) -> Outcome
-    ensures { λ r. ⌜ outputOf r (now (out .exit)) ≡ saveOf s (now (out .entry)) ⌝ }
+    ensures { λ r. ⌜ savedOutput r (now (out .exit)) ≡ saveOf s (now (out .entry)) ⌝ }
 {
     if !state::is_sound(s) {
         return Outcome::Refused(15);

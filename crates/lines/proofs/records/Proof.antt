@@ -6,7 +6,7 @@ use Prim.Native.Nat.{_+_, _-_, _*_, _≤_}
 use lib.ListN.{length}
 use denote.Ref.{now}
 use Rattle.text.specs.Rooms.{lineRoom}
-use Rattle.lines.specs.Log.{recordLength, slaveAfter, linesOf}
+use Rattle.lines.specs.Log.{recordLength, slaveBehind, linesOf}
 use Rattle.lines.specs.Pieces.{mostRecords, Handled}
 use Rattle.text.proofs.Putting.{placed-puts, nothing}
 use Rattle.lines.proofs.Capture.{handled-bytes, handled-room, handled-number, handled-more, handled-same}
@@ -30,7 +30,7 @@ handled-requires : tie.Need-handled-requires Inv-loop μ-loop
 handled-requires c κs = search needs
 
 loop-holds : tie.Need-loop-holds Inv-loop μ-loop
-unfolding slaveAfter linesOf
+unfolding slaveBehind linesOf
 loop-holds c =
     let a = c .before .before .before .args in
     let e = c .handled .ensures in

@@ -6,7 +6,7 @@ use denote.Ref.{now}
 use borrow.Author.Tests.{not-true, not-false}
 use Rattle.state.specs.Sound.{sound}
 use Rattle.slave.specs.declared.Outcome.the-variants.{Done}
-use Rattle.saved.specs.Block.{outputOf}
+use Rattle.saved.specs.Block.{savedOutput}
 use Rattle.saved.proofs.Answers.{save-15, save-18, save-done, block-put}
 use Rattle.saved.proofs.save.Statement.{statement}
 use Rattle.saved.proofs.save.Tie as tie
@@ -51,7 +51,7 @@ returns-3 : tie.Need-returns-3
 returns-3 c =
     let a = c .before .before .before .before .before .before .before .before .before .before .before .before .before .before .before .before .before .before .before .before .args in
     let put = block-put (a .s) (now (a .out)) _ _ _ _ (c .before .before .before .before .before .before .before .before .before .before .before .before .before .before .before .before .if2 .left) (c .before .before .before .before .before .before .before .before .before .before .before .before .before .before .put-body .ensures) (c .before .before .before .before .before .before .before .before .before .before .put-pair .ensures) (c .before .before .before .before .before .before .put-pair2 .ensures) (c .before .before .seal .ensures) in
-    ap (outputOf Done) put ∙ sym (save-done (a .s) (now (a .out)) (is-sound (c .before .before .before .before .before .before .before .before .before .before .before .before .before .before .before .before .before)) (c .before .before .before .before .before .before .before .before .before .before .before .before .before .before .before .before .if2 .left))
+    ap (savedOutput Done) put ∙ sym (save-done (a .s) (now (a .out)) (is-sound (c .before .before .before .before .before .before .before .before .before .before .before .before .before .before .before .before .before)) (c .before .before .before .before .before .before .before .before .before .before .before .before .before .before .before .before .if2 .left))
 
 pub save-spec : {M : Type 1} → statement M
 save-spec =
