@@ -6,8 +6,8 @@
  * A call that moves a slave gets it by pointer and leaves the new one in its place; its result is the reply, or a number alone.
  *
  * Each call of the library has a contract that is proved for every value of its arguments, and this text says it in words: there is no number that a call
- * does not answer, it never reads or writes outside what it was lent, and it always returns. The calls that are static inline are three lines of C around
- * such a call, and these lines are tested, not proved (WHAT THE CALLS ABOVE ARE MADE OF, at the end). What is up to the caller:
+ * does not answer, it never reads or writes outside what it was lent, and it always returns. Start, numbers notice, gap and resume are three lines of C
+ * around such a call: these lines are tested, not proved (WHAT THE CALLS ABOVE ARE MADE OF, at the end). What is up to the caller:
  *  - a pointer leads to as many bytes as the length beside it says, and is not null, also where that length is 0; a vikombare_slave pointer leads to one,
  *    and for a start or a resume to room for one, whatever it holds;
  *  - memory that is lent for writing does not overlap what else is lent to the same call;
@@ -319,8 +319,8 @@ VIKOMBARE_KEEP vikombare_reading vikombare_read(const uint8_t *packet, size_t le
 VIKOMBARE_KEEP uint8_t vikombare_write(uint8_t *out, size_t out_length, vikombare_notice notice, const uint8_t *addressing, size_t addressing_length);
 
 /* WHAT THE CALLS ABOVE ARE MADE OF
- * The library's own start, numbers notice, gap and resume hand the new slave back beside the number or the reply. Their contracts are proved. Each function
- * here stores that slave in place of the old one, and nothing else; firmware calls these functions, under the names above. */
+ * The library's own start, numbers notice, gap and resume hand the new slave back, beside the number or the reply. The functions after them store that
+ * slave, and nothing else, so that nobody has to think of it. Firmware needs the calls above alone. */
 typedef struct {
     vikombare_slave slave;
     uint8_t number; /* 0, or why it refuses */

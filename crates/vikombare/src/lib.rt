@@ -1,5 +1,6 @@
 // The calls that a board's firmware links, for C: a slave's start, packets in place, numbers notices and gaps, its saved block, and notices read and
-// written. include/vikombare.h is their header. No call has a condition on its numbers: bad input gets its number of document 01's table.
+// written. include/vikombare.h is their header, which stores the slaves that are handed back by value. No call has a condition on its numbers: bad
+// input gets its number of document 01's table.
 use judging::Numbers;
 use notice::Notice;
 use notice::Reading;
@@ -168,7 +169,12 @@ pub extern "C" fn vikombare_save(s: Slave, out: &mut [u8]) -> u8
 
 // Resumes a saved slave on a board of profile 0.
 #[no_mangle]
-pub extern "C" fn vikombare_dvb_resume_by_value(block: &[u8], n: u16, site: u16, tad: Steps) -> Change
+pub extern "C" fn vikombare_dvb_resume_by_value(
+    block: &[u8],
+    n: u16,
+    site: u16,
+    tad: Steps,
+) -> Change
     ensures { λ r. ⌜ r ≡ flatChange (resumeOf (now (block .entry)) (dvbBoard n site tad)) ⌝ }
 {
     change_of(saved::resume(block, dvb_board(n, site, tad)))
@@ -176,7 +182,12 @@ pub extern "C" fn vikombare_dvb_resume_by_value(block: &[u8], n: u16, site: u16,
 
 // Resumes a saved slave on a board of profile 1.
 #[no_mangle]
-pub extern "C" fn vikombare_a110_resume_by_value(block: &[u8], n: u16, site: u16, tad: Periods) -> Change
+pub extern "C" fn vikombare_a110_resume_by_value(
+    block: &[u8],
+    n: u16,
+    site: u16,
+    tad: Periods,
+) -> Change
     ensures { λ r. ⌜ r ≡ flatChange (resumeOf (now (block .entry)) (a110Board n site tad)) ⌝ }
 {
     change_of(saved::resume(block, a110_board(n, site, tad)))
