@@ -81,13 +81,7 @@ extern "C" {
     fn vikombare_dvb_start_by_value(n: u16, site: u16, tad: Steps) -> CChange;
     fn vikombare_a110_start_by_value(n: u16, site: u16, tad: Periods) -> CChange;
     fn vikombare_packet(slave: *mut CSlave, packet: *const u8, length: usize, arrival: Tick) -> Reply;
-    fn vikombare_numbers_by_value(
-        slave: CSlave,
-        packet: *const u8,
-        length: usize,
-        arrival: Periods,
-        notice: CNumbers,
-    ) -> CStep;
+    fn vikombare_numbers_by_value(slave: CSlave, packet: *const u8, length: usize, arrival: Periods, notice: CNumbers) -> CStep;
     fn vikombare_gap_by_value(slave: CSlave, k: u16) -> CChange;
     fn vikombare_save(slave: CSlave, out: *mut u8, length: usize) -> u8;
     fn vikombare_dvb_resume_by_value(block: *const u8, length: usize, n: u16, site: u16, tad: Steps) -> CChange;
