@@ -87,22 +87,22 @@ static void feed_dvb(vikombare_slave *slave, const uint8_t *packet, uint32_t tic
     print_reply(vikombare_packet(slave, packet, PACKET, vikombare_dvb_tick(steps(tick))));
 }
 
-static void print_change(const char *what, vikombare_change change)
+static void print_slave(const char *what, uint8_t number, const vikombare_slave *slave)
 {
     static const char *const phases[] = {"cold", "hunting", "locked"};
-    printf("%s: number %u, %s, next label %u\n", what, change.number, phases[change.slave.count.phase], change.slave.count.next);
+    printf("%s: number %u, %s, next label %u\n", what, number, phases[slave->count.phase], slave->count.next);
 }
 
 static void dvb_board(void)
 {
     /* An offset of 50 steps for site 7: identifier, loop length, then tag 0, its length 4, and the offset. */
     static const uint8_t offset[] = {0x00, SITE, 4, 0, 4, 0, 50};
-    uint8_t packet[PACKET], null[PACKET], block[VIKOMBARE_BLOCK_BYTES];
+    uint8_t packet[PACKET], null[PACKET], block[VIKOMBARE_BLOCK_BYTES], number;
+    vikombare_slave slave;
     null_packet(null);
 
-    vikombare_change change = vikombare_dvb_start(CADENCE, SITE, TAD);
-    print_change("start", change);
-    vikombare_slave slave = change.slave;
+    number = vikombare_dvb_start(&slave, CADENCE, SITE, TAD);
+    print_slave("start", number, &slave);
 
     feed_dvb(&slave, null, 1000);
     notice_packet(packet, 1, 9500000, 700000, offset, 0);
@@ -111,16 +111,15 @@ static void dvb_board(void)
     feed_dvb(&slave, null, 9900000);
 
     printf("save: number %u\n", vikombare_save(slave, block, sizeof block));
-    print_change("resume on another board", vikombare_dvb_resume(block, sizeof block, CADENCE, SITE + 1, TAD));
-    change = vikombare_dvb_resume(block, sizeof block, CADENCE, SITE, TAD);
-    print_change("resume", change);
-    slave = change.slave;
+    number = vikombare_dvb_resume(&slave, block, sizeof block, CADENCE, SITE + 1, TAD);
+    print_slave("resume on another board", number, &slave);
+    number = vikombare_dvb_resume(&slave, block, sizeof block, CADENCE, SITE, TAD);
+    print_slave("resume", number, &slave);
 
     notice_packet(packet, 2014, 100000, 700000, offset, sizeof offset);
     feed_dvb(&slave, packet, 9950000);
-    change = vikombare_gap(slave, 2014);
-    print_change("gap of 2014", change);
-    slave = change.slave;
+    number = vikombare_gap(&slave, 2014);
+    print_slave("gap of 2014", number, &slave);
     feed_dvb(&slave, null, 500000);
     packet[24] ^= 1;
     feed_dvb(&slave, packet, 550000);
@@ -131,15 +130,16 @@ static void dvb_board(void)
 
 static void a110_board(void)
 {
-    uint8_t null[PACKET];
-    null_packet(null);
-    vikombare_change change = vikombare_a110_start(624, SITE, periods(1000));
-    print_change("A/110 start", change);
     /* pointer, STS, MD, OD, index */
-    vikombare_numbers_notice notice = {0, {19392657}, {63740}, -32768, 0};
-    vikombare_step step = vikombare_numbers(change.slave, null, PACKET, periods(19000000), notice);
-    print_reply(step.reply);
-    print_reply(vikombare_packet(&step.slave, null, PACKET, vikombare_a110_tick(periods(5))));
+    static const vikombare_numbers_notice notice = {0, {19392657}, {63740}, -32768, 0};
+    uint8_t null[PACKET], number;
+    vikombare_slave slave;
+    null_packet(null);
+
+    number = vikombare_a110_start(&slave, 624, SITE, periods(1000));
+    print_slave("A/110 start", number, &slave);
+    print_reply(vikombare_numbers(&slave, null, PACKET, periods(19000000), notice));
+    print_reply(vikombare_packet(&slave, null, PACKET, vikombare_a110_tick(periods(5))));
 }
 
 int main(void)

@@ -78,20 +78,14 @@ c_struct! {
 
 #[link(name = "vikombare", kind = "static")]
 extern "C" {
-    fn vikombare_dvb_start(n: u16, site: u16, tad: Steps) -> CChange;
-    fn vikombare_a110_start(n: u16, site: u16, tad: Periods) -> CChange;
+    fn vikombare_dvb_start_by_value(n: u16, site: u16, tad: Steps) -> CChange;
+    fn vikombare_a110_start_by_value(n: u16, site: u16, tad: Periods) -> CChange;
     fn vikombare_packet(slave: *mut CSlave, packet: *const u8, length: usize, arrival: Tick) -> Reply;
-    fn vikombare_numbers(
-        slave: CSlave,
-        packet: *const u8,
-        length: usize,
-        arrival: Periods,
-        notice: CNumbers,
-    ) -> CStep;
-    fn vikombare_gap(slave: CSlave, k: u16) -> CChange;
+    fn vikombare_numbers_by_value(slave: CSlave, packet: *const u8, length: usize, arrival: Periods, notice: CNumbers) -> CStep;
+    fn vikombare_gap_by_value(slave: CSlave, k: u16) -> CChange;
     fn vikombare_save(slave: CSlave, out: *mut u8, length: usize) -> u8;
-    fn vikombare_dvb_resume(block: *const u8, length: usize, n: u16, site: u16, tad: Steps) -> CChange;
-    fn vikombare_a110_resume(block: *const u8, length: usize, n: u16, site: u16, tad: Periods) -> CChange;
+    fn vikombare_dvb_resume_by_value(block: *const u8, length: usize, n: u16, site: u16, tad: Steps) -> CChange;
+    fn vikombare_a110_resume_by_value(block: *const u8, length: usize, n: u16, site: u16, tad: Periods) -> CChange;
     fn vikombare_read(packet: *const u8, length: usize) -> CReading;
     fn vikombare_write(out: *mut u8, out_length: usize, notice: CNotice, addressing: *const u8, addressing_length: usize) -> u8;
 }
@@ -101,8 +95,8 @@ extern "C" {
 #[inline(always)]
 pub fn start(profile: u8, n: u16, site: u16, tad: u32) -> CChange {
     match profile {
-        0 => unsafe { vikombare_dvb_start(n, site, Steps { steps: tad }) },
-        _ => unsafe { vikombare_a110_start(n, site, Periods { periods: tad }) },
+        0 => unsafe { vikombare_dvb_start_by_value(n, site, Steps { steps: tad }) },
+        _ => unsafe { vikombare_a110_start_by_value(n, site, Periods { periods: tad }) },
     }
 }
 
@@ -116,12 +110,12 @@ pub fn packet(slave: &mut CSlave, p: &[u8], profile: u8, count: u32) -> Reply {
 pub fn numbers(slave: CSlave, p: &[u8], tick: u32, m: &Numbers) -> CStep {
     let [arrival, sts, md] = [tick, m.sts, m.md].map(|periods| Periods { periods });
     let notice = CNumbers { pointer: m.pointer, sts, md, od: m.od, index: m.index };
-    unsafe { vikombare_numbers(slave, p.as_ptr(), p.len(), arrival, notice) }
+    unsafe { vikombare_numbers_by_value(slave, p.as_ptr(), p.len(), arrival, notice) }
 }
 
 #[inline(always)]
 pub fn gap(slave: CSlave, k: u16) -> CChange {
-    unsafe { vikombare_gap(slave, k) }
+    unsafe { vikombare_gap_by_value(slave, k) }
 }
 
 #[inline(always)]
@@ -132,8 +126,8 @@ pub fn save(slave: CSlave, out: &mut [u8]) -> u8 {
 #[inline(always)]
 pub fn resume(block: &[u8], profile: u8, n: u16, site: u16, tad: u32) -> CChange {
     match profile {
-        0 => unsafe { vikombare_dvb_resume(block.as_ptr(), block.len(), n, site, Steps { steps: tad }) },
-        _ => unsafe { vikombare_a110_resume(block.as_ptr(), block.len(), n, site, Periods { periods: tad }) },
+        0 => unsafe { vikombare_dvb_resume_by_value(block.as_ptr(), block.len(), n, site, Steps { steps: tad }) },
+        _ => unsafe { vikombare_a110_resume_by_value(block.as_ptr(), block.len(), n, site, Periods { periods: tad }) },
     }
 }
 

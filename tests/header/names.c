@@ -58,11 +58,13 @@ static void refusals(void)
     static const uint8_t earlier[] = {0, SITE, 4, 0, 4, 0xFF, 0xCD}; /* an offset of -51 for site 7 */
     vikombare_periods sum = {700000}, arrival = {5};
     vikombare_steps step = {5};
-    vikombare_slave hunting = vikombare_dvb_start(N, SITE, NONE).slave, slave = hunting;
+    vikombare_slave hunting, slave;
     vikombare_notice odd = {16, 0, true, 0, {0}, {0}, 0};
     vikombare_numbers_notice numbers = {0, {0}, {700000}, 0, VIKOMBARE_INDEX_UNKNOWN};
     uint8_t packet[PACKET];
 
+    HOLD(VIKOMBARE_ACCEPTED, vikombare_dvb_start(&hunting, N, SITE, NONE));
+    slave = hunting;
     HOLD(VIKOMBARE_ACCEPTED, written(0, 9500000, 700000, earlier, 0));
     HOLD(VIKOMBARE_REFUSED_LENGTH, vikombare_packet(&slave, null, 187, vikombare_dvb_tick(step)).number);
     memcpy(packet, null, PACKET);
@@ -82,29 +84,29 @@ static void refusals(void)
     HOLD(VIKOMBARE_REFUSED_POINTER, ignored(&hunting));
     HOLD(VIKOMBARE_ACCEPTED, written(0, 0, 50, earlier, sizeof earlier));
     HOLD(VIKOMBARE_REFUSED_DELAY, ignored(&hunting));
-    HOLD(VIKOMBARE_REFUSED_COLD, vikombare_dvb_start(N, 0, NONE).number);
+    HOLD(VIKOMBARE_REFUSED_COLD, vikombare_dvb_start(&slave, N, 0, NONE));
     HOLD(VIKOMBARE_ACCEPTED, vikombare_save(hunting, block, BLOCK));
-    HOLD(VIKOMBARE_REFUSED_BOARD, vikombare_dvb_resume(block, BLOCK, N, SITE + 1, NONE).number);
+    HOLD(VIKOMBARE_REFUSED_BOARD, vikombare_dvb_resume(&slave, block, BLOCK, N, SITE + 1, NONE));
     block[0] = 7;
-    HOLD(VIKOMBARE_REFUSED_BLOCK, vikombare_dvb_resume(block, BLOCK, N, SITE, NONE).number);
+    HOLD(VIKOMBARE_REFUSED_BLOCK, vikombare_dvb_resume(&slave, block, BLOCK, N, SITE, NONE));
     HOLD(VIKOMBARE_REFUSED_ROOM, vikombare_save(hunting, block, BLOCK - 1));
     HOLD(VIKOMBARE_REFUSED_FIELD, vikombare_write(packet, PACKET, odd, earlier, 0));
-    HOLD(VIKOMBARE_REFUSED_PROFILE, vikombare_numbers(hunting, null, PACKET, sum, numbers).reply.number);
+    HOLD(VIKOMBARE_REFUSED_PROFILE, vikombare_numbers(&hunting, null, PACKET, sum, numbers).number);
     sum.periods = VIKOMBARE_DVB_SECOND;
-    HOLD(VIKOMBARE_REFUSED_TICK, vikombare_numbers(hunting, null, PACKET, sum, numbers).reply.number);
+    HOLD(VIKOMBARE_REFUSED_TICK, vikombare_numbers(&hunting, null, PACKET, sum, numbers).number);
 }
 
 static void kinds(void)
 {
-    vikombare_slave slave = vikombare_dvb_start(N, 0, NONE).slave, due;
+    vikombare_slave slave, due;
     vikombare_periods tad = {1}, arrival = {5};
     vikombare_numbers_notice numbers = {0, {0}, {700000}, 0, 0};
-    vikombare_step step;
     vikombare_reply reply;
 
+    HOLD(VIKOMBARE_REFUSED_COLD, vikombare_dvb_start(&slave, N, 0, NONE));
     HOLD(VIKOMBARE_PHASE_COLD, slave.count.phase);
     HOLD(VIKOMBARE_INDEX_UNKNOWN, slave.count.index);
-    slave = vikombare_dvb_start(N, SITE, NONE).slave;
+    HOLD(VIKOMBARE_ACCEPTED, vikombare_dvb_start(&slave, N, SITE, NONE));
     HOLD(VIKOMBARE_PHASE_HUNTING, slave.count.phase);
     HOLD(VIKOMBARE_PROFILE_DVB, slave.board.profile);
     reply = heard(&slave, null, 5);
@@ -126,9 +128,10 @@ static void kinds(void)
     HOLD(VIKOMBARE_MARK_UNTIMED, heard(&slave, null, 5).mark.kind);
     mip[24] ^= 1;
     HOLD(VIKOMBARE_NOTICE_IGNORED, heard(&slave, mip, 5).notice);
-    step = vikombare_numbers(vikombare_a110_start(624, SITE, tad).slave, null, PACKET, arrival, numbers);
-    HOLD(VIKOMBARE_PROFILE_A110, step.slave.board.profile);
-    HOLD(VIKOMBARE_MARK_A110_RELEASED, vikombare_packet(&step.slave, null, PACKET, vikombare_a110_tick(arrival)).mark.kind);
+    HOLD(VIKOMBARE_ACCEPTED, vikombare_a110_start(&slave, 624, SITE, tad));
+    HOLD(VIKOMBARE_PROFILE_A110, slave.board.profile);
+    HOLD(VIKOMBARE_NOTICE_TAKEN, vikombare_numbers(&slave, null, PACKET, arrival, numbers).notice);
+    HOLD(VIKOMBARE_MARK_A110_RELEASED, vikombare_packet(&slave, null, PACKET, vikombare_a110_tick(arrival)).mark.kind);
 }
 
 int main(void)

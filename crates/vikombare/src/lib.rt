@@ -1,5 +1,6 @@
 // The calls that a board's firmware links, for C: a slave's start, packets in place, numbers notices and gaps, its saved block, and notices read and
-// written. include/vikombare.h is their header. No call has a condition on its numbers: bad input gets its number of document 01's table.
+// written. include/vikombare.h is their header, which stores the slaves that are handed back by value. No call has a condition on its numbers: bad
+// input gets its number of document 01's table.
 use judging::Numbers;
 use notice::Notice;
 use notice::Reading;
@@ -82,7 +83,7 @@ fn a110_board(n: u16, site: u16, tad: Periods) -> Board
 
 // Starts a slave of profile 0.
 #[no_mangle]
-pub extern "C" fn vikombare_dvb_start(n: u16, site: u16, tad: Steps) -> Change
+pub extern "C" fn vikombare_dvb_start_by_value(n: u16, site: u16, tad: Steps) -> Change
     ensures { λ r. ⌜ r ≡ flatChange (startOf (dvbBoard n site tad)) ⌝ }
 {
     change_of(slave::start(dvb_board(n, site, tad)))
@@ -90,7 +91,7 @@ pub extern "C" fn vikombare_dvb_start(n: u16, site: u16, tad: Steps) -> Change
 
 // Starts a slave of profile 1.
 #[no_mangle]
-pub extern "C" fn vikombare_a110_start(n: u16, site: u16, tad: Periods) -> Change
+pub extern "C" fn vikombare_a110_start_by_value(n: u16, site: u16, tad: Periods) -> Change
     ensures { λ r. ⌜ r ≡ flatChange (startOf (a110Board n site tad)) ⌝ }
 {
     change_of(slave::start(a110_board(n, site, tad)))
@@ -144,7 +145,7 @@ pub extern "C" fn vikombare_packet(s: &mut Slave, p: &[u8], tick: Tick) -> Packe
 
 // A packet that comes with a notice in numbers, profile 1. The slave is handed back.
 #[no_mangle]
-pub extern "C" fn vikombare_numbers(s: Slave, p: &[u8], tick: Periods, x: Numbers) -> Step
+pub extern "C" fn vikombare_numbers_by_value(s: Slave, p: &[u8], tick: Periods, x: Numbers) -> Step
     ensures { λ r. ⌜ r ≡ flatStep (numbersOf s (now (p .entry)) (tick .0) x) ⌝ }
 {
     by_value::numbers_step(s, p, tick.0, x)
@@ -152,7 +153,7 @@ pub extern "C" fn vikombare_numbers(s: Slave, p: &[u8], tick: Periods, x: Number
 
 // A gap of k packets.
 #[no_mangle]
-pub extern "C" fn vikombare_gap(s: Slave, k: u16) -> Change
+pub extern "C" fn vikombare_gap_by_value(s: Slave, k: u16) -> Change
     ensures { λ r. ⌜ r ≡ flatChange (gapOf s k) ⌝ }
 {
     change_of(slave::gap(s, k))
@@ -168,7 +169,12 @@ pub extern "C" fn vikombare_save(s: Slave, out: &mut [u8]) -> u8
 
 // Resumes a saved slave on a board of profile 0.
 #[no_mangle]
-pub extern "C" fn vikombare_dvb_resume(block: &[u8], n: u16, site: u16, tad: Steps) -> Change
+pub extern "C" fn vikombare_dvb_resume_by_value(
+    block: &[u8],
+    n: u16,
+    site: u16,
+    tad: Steps,
+) -> Change
     ensures { λ r. ⌜ r ≡ flatChange (resumeOf (now (block .entry)) (dvbBoard n site tad)) ⌝ }
 {
     change_of(saved::resume(block, dvb_board(n, site, tad)))
@@ -176,7 +182,12 @@ pub extern "C" fn vikombare_dvb_resume(block: &[u8], n: u16, site: u16, tad: Ste
 
 // Resumes a saved slave on a board of profile 1.
 #[no_mangle]
-pub extern "C" fn vikombare_a110_resume(block: &[u8], n: u16, site: u16, tad: Periods) -> Change
+pub extern "C" fn vikombare_a110_resume_by_value(
+    block: &[u8],
+    n: u16,
+    site: u16,
+    tad: Periods,
+) -> Change
     ensures { λ r. ⌜ r ≡ flatChange (resumeOf (now (block .entry)) (a110Board n site tad)) ⌝ }
 {
     change_of(saved::resume(block, a110_board(n, site, tad)))

@@ -1,10 +1,10 @@
--- `vikombare::vikombare_dvb_start` meets its contract.
+-- `vikombare::vikombare_dvb_start_by_value` meets its contract.
 use borrow.Author.Needs.{needs}
 use mathlib.Core.Path.{ap, _∙_}
 use Rattle.slave.specs.Calls.{startOf}
 use Rattle.vikombare.specs.Flat.{flatChange}
-use Rattle.vikombare.proofs.vikombare_dvb_start.Statement.{statement}
-use Rattle.vikombare.proofs.vikombare_dvb_start.Tie as tie
+use Rattle.vikombare.proofs.vikombare_dvb_start_by_value.Statement.{statement}
+use Rattle.vikombare.proofs.vikombare_dvb_start_by_value.Tie as tie
 
 dvb-board-requires : tie.Need-dvb-board-requires
 dvb-board-requires c κs = search needs
@@ -18,5 +18,5 @@ change-of-requires c κs = search needs
 returns : tie.Need-returns
 returns c = c .change-of .ensures ∙ ap flatChange (c .before .start .ensures ∙ ap startOf (c .before .before .dvb-board .ensures))
 
-pub vikombare-dvb-start-spec : {M : Type 1} → statement M
-vikombare-dvb-start-spec = tie.close (tie.spec dvb-board-requires start-requires change-of-requires returns)
+pub vikombare-dvb-start-by-value-spec : {M : Type 1} → statement M
+vikombare-dvb-start-by-value-spec = tie.close (tie.spec dvb-board-requires start-requires change-of-requires returns)
