@@ -134,8 +134,8 @@ typedef struct {
 /* The settings in force: each from the last notice taken that gave it, else 0. */
 typedef struct {
     int16_t od;        /* offset delay, in the profile's unit */
-    int32_t frequency; /* frequency offset, in Hz */
     uint16_t power;    /* in 0.1 dBm */
+    int32_t frequency; /* frequency offset, in Hz */
 } vikombare_settings;
 
 enum {
@@ -262,11 +262,11 @@ VIKOMBARE_HOLDS(sizeof(bool) == 1 && sizeof(size_t) == 8);
 VIKOMBARE_HOLDS(sizeof(vikombare_steps) == 4 && sizeof(vikombare_periods) == 4);
 VIKOMBARE_HOLDS(sizeof(vikombare_tick) == 8 && offsetof(vikombare_tick, count) == 4);
 VIKOMBARE_HOLDS(sizeof(vikombare_board) == 12 && offsetof(vikombare_board, n) == 2 && offsetof(vikombare_board, tad) == 8);
-VIKOMBARE_HOLDS(sizeof(vikombare_settings) == 12 && offsetof(vikombare_settings, frequency) == 4 && offsetof(vikombare_settings, power) == 8);
+VIKOMBARE_HOLDS(sizeof(vikombare_settings) == 8 && offsetof(vikombare_settings, power) == 2 && offsetof(vikombare_settings, frequency) == 4);
 VIKOMBARE_HOLDS(sizeof(vikombare_count) == 6 && offsetof(vikombare_count, next) == 2 && offsetof(vikombare_count, index) == 4);
 VIKOMBARE_HOLDS(sizeof(vikombare_waiting) == 12 && offsetof(vikombare_waiting, sts) == 4);
-VIKOMBARE_HOLDS(sizeof(vikombare_slave) == 44 && offsetof(vikombare_slave, settings) == 12);
-VIKOMBARE_HOLDS(offsetof(vikombare_slave, count) == 24 && offsetof(vikombare_slave, waiting) == 32);
+VIKOMBARE_HOLDS(sizeof(vikombare_slave) == 40 && offsetof(vikombare_slave, settings) == 12);
+VIKOMBARE_HOLDS(offsetof(vikombare_slave, count) == 20 && offsetof(vikombare_slave, waiting) == 28);
 VIKOMBARE_HOLDS(sizeof(vikombare_dvb_times) == 24 && offsetof(vikombare_dvb_times, wait) == 16);
 VIKOMBARE_HOLDS(sizeof(vikombare_a110_times) == 24 && offsetof(vikombare_a110_times, wait) == 16);
 VIKOMBARE_HOLDS(sizeof(vikombare_mark) == 32 && offsetof(vikombare_mark, dvb) == 8 && offsetof(vikombare_mark, a110) == 8);
@@ -331,8 +331,8 @@ typedef struct {
     vikombare_reply reply;
 } vikombare_step;
 
-VIKOMBARE_HOLDS(sizeof(vikombare_change) == 48 && offsetof(vikombare_change, number) == 44);
-VIKOMBARE_HOLDS(sizeof(vikombare_step) == 96 && offsetof(vikombare_step, reply) == 48);
+VIKOMBARE_HOLDS(sizeof(vikombare_change) == 44 && offsetof(vikombare_change, number) == 40);
+VIKOMBARE_HOLDS(sizeof(vikombare_step) == 88 && offsetof(vikombare_step, reply) == 40);
 #undef VIKOMBARE_HOLDS
 
 VIKOMBARE_KEEP vikombare_change vikombare_dvb_start_by_value(uint16_t n, uint16_t site, vikombare_steps tad);

@@ -22,8 +22,8 @@ int main(void)
     FIELD(board, tad);
     STRUCT(settings);
     FIELD(settings, od);
-    FIELD(settings, frequency);
     FIELD(settings, power);
+    FIELD(settings, frequency);
     STRUCT(count);
     FIELD(count, phase);
     FIELD(count, next);

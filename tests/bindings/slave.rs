@@ -9,7 +9,7 @@ c_struct! {
 
 c_struct! {
     /// The settings in force.
-    CSettings { od: i16, frequency: i32, power: u16, }
+    CSettings { od: i16, power: u16, frequency: i32, }
 }
 
 c_struct! {

@@ -8,8 +8,8 @@ ghost use Rattle.addressing.specs.Entries.{addressed, settingsOf, wellFo
 #[repr(C)]
 pub struct Settings {
     pub od: i16,
-    pub frequency: i32,
     pub power: u16,
+    pub frequency: i32,
 }
 
 // The settings after a field, or none of a field of wrong form.

@@ -383,7 +383,7 @@ module _ {M : Type 1} (𝓤 : URA M) (H : Heap 𝓤) (A : Atoms 𝓤) (W : Given
           let parts = Struct.owed Q.the-type Q′.the-laws x _ i in
           rewrite ! 13 (λ (u : Val). ‵ (fat fullShare WayTy l₁₀ 0 u)) (ap only (Y′.lowers .val-is (way.Short x) _ is)) refl $ switches-to ! (load ! (from ! (vrt ! {σ = tag-only} refl (fld ! {τ = tyInt w8} {d = 0} refl (stop !)))) (look-tag {τss = ways} ! 13 (whole ! {τ = WayTy}))) refl $
           assigns ! (of-opd ! (load ! (from ! (vrt ! {σ = held Q′.mir} refl (fld ! {τ = Q′.mir} {d = 8} refl (stop !)))) (look-in ! 13 {τ = Q′.mir} (in-variant ! {τss = ways} 3 0 {τs = tcons Q′.mir tnil} {τ = Q′.mir} {d = 8} refl refl (whole ! {τ = WayTy}))))) (from ! (stop !)) (init ! 23 refl (Struct.lawful Q.the-type Q′.the-laws 𝓤 H A W .typed x _ i .0)) $
-          assigns ! (of-opd ! (load ! (from ! (fld ! {τ = tyInt w16} {d = 0} refl (stop !))) (look-in ! 23 {τ = tyInt w16} (sub ! {τs = short-fields} 0 {τ = tyInt w16} {d = 0} refl (whole ! {τ = ShortTy}))))) (from ! (hop ! (look ! 31 refl) (fld ! {τ = D′.mir} {d = 24} refl (fld ! {τ = tyInt w16} {d = 2} refl (stop !))))) (store-in ! 3 {τ = tyInt w16} (sub ! 1 {τ = tyInt w16} {d = 2} refl (sub ! 2 {d = 24} refl (whole !))) (tt, record { fits = parts .0 .1 })) $
+          assigns ! (of-opd ! (load ! (from ! (fld ! {τ = tyInt w16} {d = 0} refl (stop !))) (look-in ! 23 {τ = tyInt w16} (sub ! {τs = short-fields} 0 {τ = tyInt w16} {d = 0} refl (whole ! {τ = ShortTy}))))) (from ! (hop ! (look ! 31 refl) (fld ! {τ = D′.mir} {d = 20} refl (fld ! {τ = tyInt w16} {d = 2} refl (stop !))))) (store-in ! 3 {τ = tyInt w16} (sub ! 1 {τ = tyInt w16} {d = 2} refl (sub ! 2 {d = 20} refl (whole !))) (tt, record { fits = parts .0 .1 })) $
           flattens (x .report) (lowered-is R.the-row R′.lowers (x .report) _ (parts .1 .0)) (λ _. load ! (from ! (fld ! {τ = R′.mir} {d = 8} refl (stop !))) (look-in ! 24 {τ = R′.mir} (sub ! {τs = short-fields} 1 {τ = R′.mir} {d = 8} refl (whole ! {τ = ShortTy}))))
           (λ u f ef if. ends (counted h x) (counted-is h x g i) u f (ap (flatLeft (counted h x)) ef ∙ ap flatStep e) if full empty empty empty empty empty)
 
@@ -394,11 +394,11 @@ module _ {M : Type 1} (𝓤 : URA M) (H : Heap 𝓤) (A : Atoms 𝓤) (W : Given
           let parts = Struct.owed J.the-type J′.the-laws x _ i in
           rewrite ! 13 (λ (u : Val). ‵ (fat fullShare WayTy l₁₀ 0 u)) (ap only (Y′.lowers .val-is (way.Marked x) _ is)) refl $ switches-to ! (load ! (from ! (vrt ! {σ = tag-only} refl (fld ! {τ = tyInt w8} {d = 0} refl (stop !)))) (look-tag {τss = ways} ! 13 (whole ! {τ = WayTy}))) refl $
           assigns ! (of-opd ! (load ! (from ! (vrt ! {σ = held J′.mir} refl (fld ! {τ = J′.mir} {d = 8} refl (stop !)))) (look-in ! 13 {τ = J′.mir} (in-variant ! {τss = ways} 4 0 {τs = tcons J′.mir tnil} {τ = J′.mir} {d = 8} refl refl (whole ! {τ = WayTy}))))) (from ! (stop !)) (init ! 21 refl (Struct.lawful J.the-type J′.the-laws 𝓤 H A W .typed x _ i .0)) $
-          assigns ! (of-opd ! (load ! (from ! (fld ! {τ = D′.mir} {d = 0} refl (stop !))) (look-in ! 21 {τ = D′.mir} (sub ! {τs = marked-fields} 0 {τ = D′.mir} {d = 0} refl (whole ! {τ = MarkedTy}))))) (from ! (hop ! (look ! 31 refl) (fld ! {τ = D′.mir} {d = 24} refl (stop !)))) (store-part ! 3 {τ = D′.mir} (sub ! 2 {d = 24} refl (whole !)) (Struct.lawful D.the-type D′.the-laws 𝓤 H A W .typed (x .count) _ (lowered-is D.the-row D′.lowers (x .count) _ (parts .0)) .0)) $
+          assigns ! (of-opd ! (load ! (from ! (fld ! {τ = D′.mir} {d = 0} refl (stop !))) (look-in ! 21 {τ = D′.mir} (sub ! {τs = marked-fields} 0 {τ = D′.mir} {d = 0} refl (whole ! {τ = MarkedTy}))))) (from ! (hop ! (look ! 31 refl) (fld ! {τ = D′.mir} {d = 20} refl (stop !)))) (store-part ! 3 {τ = D′.mir} (sub ! 2 {d = 20} refl (whole !)) (Struct.lawful D.the-type D′.the-laws 𝓤 H A W .typed (x .count) _ (lowered-is D.the-row D′.lowers (x .count) _ (parts .0)) .0)) $
           calls-plain ! fm (Calm 𝓤 H A at-mem run) calms ((tt, tt, tt, tt, tt), tt) asked-calm G.the-row (ensured 𝓤 H A calm.ended (calm.clauses 𝓤 H A at-mem run) tt tt tt) (λ _. id⊢ 𝓤 _) (λ y. y ≡ none-waits) calmed (λ _. no-more !) (λ w₂ y c iy.
           let iw = lowered-is G.the-row G′.lowers y _ iy in
           land ! (from ! (stop !)) (init ! 9 refl (Struct.lawful G.the-type G′.the-laws 𝓤 H A W .typed y _ iy .0)) $ rewrite ! 9 (λ (u : Val). ‵ (fat fullShare G′.mir l₁₂ 0 u)) (ap only (G′.lowers .val-is y _ iy)) refl $
-          assigns ! (of-opd ! (load ! (from ! (stop !)) (look ! 9 refl))) (from ! (hop ! (look ! 31 refl) (fld ! {τ = G′.mir} {d = 32} refl (stop !)))) (store-part ! 3 {τ = G′.mir} (sub ! 3 {d = 32} refl (whole !)) (Struct.lawful G.the-type G′.the-laws 𝓤 H A W .typed y _ iw .0)) $
+          assigns ! (of-opd ! (load ! (from ! (stop !)) (look ! 9 refl))) (from ! (hop ! (look ! 31 refl) (fld ! {τ = G′.mir} {d = 28} refl (stop !)))) (store-part ! 3 {τ = G′.mir} (sub ! 3 {d = 28} refl (whole !)) (Struct.lawful G.the-type G′.the-laws 𝓤 H A W .typed y _ iw .0)) $
           flattens (x .report) (lowered-is R.the-row R′.lowers (x .report) _ (parts .1 .0)) (λ _. load ! (from ! (fld ! {τ = R′.mir} {d = 8} refl (stop !))) (look-in ! 22 {τ = R′.mir} (sub ! {τs = marked-fields} 1 {τ = R′.mir} {d = 8} refl (whole ! {τ = MarkedTy}))))
           (λ u f ef if. ends (marked h x y) (marked-is h x y g i iw) u f (ap (flatLeft (marked h x y)) ef ∙ ap (λ (m : Waiting). flatLeft (marked h x m) (flatReport (reportOf (x .report)))) c ∙ ap flatStep e) if empty full empty empty full empty))
 
@@ -410,8 +410,8 @@ module _ {M : Type 1} (𝓤 : URA M) (H : Heap 𝓤) (A : Atoms 𝓤) (W : Given
           rewrite ! 13 (λ (u : Val). ‵ (fat fullShare WayTy l₁₀ 0 u)) (ap only (Y′.lowers .val-is (way.Moved x) _ is)) refl $ switches-to ! (load ! (from ! (vrt ! {σ = tag-only} refl (fld ! {τ = tyInt w8} {d = 0} refl (stop !)))) (look-tag {τss = ways} ! 13 (whole ! {τ = WayTy}))) refl $
           assigns ! (of-opd ! (load ! (from ! (vrt ! {σ = held N′.mir} refl (fld ! {τ = N′.mir} {d = 8} refl (stop !)))) (look-in ! 13 {τ = N′.mir} (in-variant ! {τss = ways} 5 0 {τs = tcons N′.mir tnil} {τ = N′.mir} {d = 8} refl refl (whole ! {τ = WayTy}))))) (from ! (stop !)) (init ! 19 refl (Struct.lawful N.the-type N′.the-laws 𝓤 H A W .typed x _ i .0)) $
           assigns ! (of-opd ! (load ! (from ! (fld ! {τ = S′.mir} {d = 0} refl (stop !))) (look-in ! 19 {τ = S′.mir} (sub ! {τs = moved-fields} 0 {τ = S′.mir} {d = 0} refl (whole ! {τ = MovedTy}))))) (from ! (hop ! (look ! 31 refl) (fld ! {τ = S′.mir} {d = 12} refl (stop !)))) (store-part ! 3 {τ = S′.mir} (sub ! 1 {d = 12} refl (whole !)) (Struct.lawful S.the-type S′.the-laws 𝓤 H A W .typed (x .settings) _ (lowered-is S.the-row S′.lowers (x .settings) _ (parts .0)) .0)) $
-          assigns ! (of-opd ! (load ! (from ! (fld ! {τ = D′.mir} {d = 12} refl (stop !))) (look-in ! 19 {τ = D′.mir} (sub ! {τs = moved-fields} 1 {τ = D′.mir} {d = 12} refl (whole ! {τ = MovedTy}))))) (from ! (hop ! (look ! 31 refl) (fld ! {τ = D′.mir} {d = 24} refl (stop !)))) (store-part ! 3 {τ = D′.mir} (sub ! 2 {d = 24} refl (whole !)) (Struct.lawful D.the-type D′.the-laws 𝓤 H A W .typed (x .count) _ (lowered-is D.the-row D′.lowers (x .count) _ (parts .1 .0)) .0)) $
-          assigns ! (of-opd ! (load ! (from ! (fld ! {τ = G′.mir} {d = 20} refl (stop !))) (look-in ! 19 {τ = G′.mir} (sub ! {τs = moved-fields} 2 {τ = G′.mir} {d = 20} refl (whole ! {τ = MovedTy}))))) (from ! (hop ! (look ! 31 refl) (fld ! {τ = G′.mir} {d = 32} refl (stop !)))) (store-part ! 3 {τ = G′.mir} (sub ! 3 {d = 32} refl (whole !)) (Struct.lawful G.the-type G′.the-laws 𝓤 H A W .typed (x .waiting) _ (lowered-is G.the-row G′.lowers (x .waiting) _ (parts .1 .1 .0)) .0)) $
+          assigns ! (of-opd ! (load ! (from ! (fld ! {τ = D′.mir} {d = 8} refl (stop !))) (look-in ! 19 {τ = D′.mir} (sub ! {τs = moved-fields} 1 {τ = D′.mir} {d = 8} refl (whole ! {τ = MovedTy}))))) (from ! (hop ! (look ! 31 refl) (fld ! {τ = D′.mir} {d = 20} refl (stop !)))) (store-part ! 3 {τ = D′.mir} (sub ! 2 {d = 20} refl (whole !)) (Struct.lawful D.the-type D′.the-laws 𝓤 H A W .typed (x .count) _ (lowered-is D.the-row D′.lowers (x .count) _ (parts .1 .0)) .0)) $
+          assigns ! (of-opd ! (load ! (from ! (fld ! {τ = G′.mir} {d = 16} refl (stop !))) (look-in ! 19 {τ = G′.mir} (sub ! {τs = moved-fields} 2 {τ = G′.mir} {d = 16} refl (whole ! {τ = MovedTy}))))) (from ! (hop ! (look ! 31 refl) (fld ! {τ = G′.mir} {d = 28} refl (stop !)))) (store-part ! 3 {τ = G′.mir} (sub ! 3 {d = 28} refl (whole !)) (Struct.lawful G.the-type G′.the-laws 𝓤 H A W .typed (x .waiting) _ (lowered-is G.the-row G′.lowers (x .waiting) _ (parts .1 .1 .0)) .0)) $
           flattens (x .report) (lowered-is R.the-row R′.lowers (x .report) _ (parts .1 .1 .1 .0)) (λ _. load ! (from ! (fld ! {τ = R′.mir} {d = 32} refl (stop !))) (look-in ! 20 {τ = R′.mir} (sub ! {τs = moved-fields} 3 {τ = R′.mir} {d = 32} refl (whole ! {τ = MovedTy}))))
           (λ u f ef if. ends (moved h x) (moved-is h x g i) u f (ap (flatLeft (moved h x)) ef ∙ ap flatStep e) if empty empty full empty empty empty)
 
