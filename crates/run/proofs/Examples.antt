@@ -16,7 +16,7 @@ use Rattle.addressing.specs.Functions.{lengthFits, setBy, functionsIn, function
 use Rattle.addressing.specs.Entries.{addressed, entriesIn, settingsOf}
 use Rattle.notice.specs.Reader.{sectionRefusal}
 use Rattle.state.specs.Profile.{second, delayKept, settingsKept}
-use Rattle.state.specs.Sound.{isZero, frequencyFits, indexFits, isNothing, waitingFits, isUnset, huntingFits, lockedFits, partsFit, sound}
+use Rattle.state.specs.Sound.{isZero, frequencyFits, indexFits, isNothing, waitingFits, isUnset, isUncounted, huntingFits, lockedFits, partsFit, sound}
 use Rattle.state.specs.declared.Board.{Board}
 use Rattle.state.specs.declared.Slave.{Slave}
 use Rattle.judging.specs.Judge.{arrivalRefusal, carries, takenRefusal, limited, judgeMip, judgeArrived, judgeGiven}
@@ -140,7 +140,7 @@ pub computed :
     × Computed A g cadenceCalls cadenceReplies (false ∷ true ∷ false ∷ false ∷ false ∷ [])
     × Computed A h otherCalls otherReplies (false ∷ true ∷ [])
     × Computed B k mipCalls mipReplies (false ∷ true ∷ true ∷ true ∷ [])
-unfolding places enterCall verdictAt judged enter countPlace tellGap untold hear leave startOf packetOf numbersOf gapOf sound settingsKept admits isMegaFrame atSomeRate second partsFit huntingFits isUnset isZero lockedFits frequencyFits indexFits waitingFits isNothing delayKept delayFits delayFitsA110 within arrivalRefusal carries takenRefusal limited judgeMip judgeArrived judgeGiven stepOf counted passed unheard took markAt markTaken noticeTaken releaseAt dueOf wrap modulation linkDelay gapped sectionRefusal settingsOf entriesIn functionsOf functionsIn lengthFits setBy addressed register registerFrom bitsIn bitIn
+unfolding places enterCall verdictAt judged enter countPlace tellGap untold hear leave startOf packetOf numbersOf gapOf sound settingsKept admits isMegaFrame atSomeRate second partsFit huntingFits isUnset isUncounted isZero lockedFits frequencyFits indexFits waitingFits isNothing delayKept delayFits delayFitsA110 within arrivalRefusal carries takenRefusal limited judgeMip judgeArrived judgeGiven stepOf counted passed unheard took markAt markTaken noticeTaken releaseAt dueOf wrap modulation linkDelay gapped sectionRefusal settingsOf entriesIn functionsOf functionsIn lengthFits setBy addressed register registerFrom bitsIn bitIn
 computed = (
   record {
     run = record { accepted = refl; rising = (lit≤ tt, (lit≤ tt, (lit≤ tt, (lit≤ tt, tt)))); genuine = (tt, (record { points = refl; here = refl }, (tt, (tt, (tt, (tt, tt)))))) };
