@@ -8,7 +8,7 @@ use Rattle.wire.specs.Standards.{syncByte}
 use Rattle.cadence.specs.Cadence.{atSomeRate, isMegaFrame, admits}
 use Rattle.state.specs.declared.Slave.{Slave}
 use Rattle.state.specs.Profile.{second, settingsKept}
-use Rattle.state.specs.Sound.{isZero, isNothing, isUnset, huntingFits, partsFit, sound}
+use Rattle.state.specs.Sound.{isZero, isNothing, isUnset, isUncounted, huntingFits, partsFit, sound}
 use Rattle.judging.specs.Judge.{arrivalRefusal, carries, judgeArrived}
 use Rattle.slave.specs.Step.{unheard, counted, stepOf}
 use Rattle.slave.specs.Calls.{startOf, packetOf}
@@ -51,7 +51,7 @@ printed =
     ++ (0x65 ∷ 0x6E ∷ 0x64 ∷ 0x20 ∷ 0x32 ∷ 0x0A ∷ [])
 
 pub example : logOf capture ≡ printed
-unfolding logOf openingOf begunBy startOf settingsKept admits isMegaFrame atSomeRate second restOf linesOf recordOf packetOf sound partsFit huntingFits isUnset isNothing isZero arrivalRefusal judgeArrived carries stepOf counted unheard lineOf siteLine endLine decimal decimalIn
+unfolding logOf openingOf begunBy startOf settingsKept admits isMegaFrame atSomeRate second restOf linesOf recordOf packetOf sound partsFit huntingFits isUnset isUncounted isNothing isZero arrivalRefusal judgeArrived carries stepOf counted unheard lineOf siteLine endLine decimal decimalIn
 example = refl
 
 -- in two pieces, read into a buffer of 300 bytes: the second record is cut after ten bytes; each output has room for one line
@@ -95,7 +95,7 @@ pub record Computed (h : List ℕ) (calls : List Call) (input output : List ℕ)
   pub printed : logBy h calls ≡ output
 
 pub in-two : Computed settings calls capture printed
-unfolding logBy came written placeAfter endingOf handledIn slaveBehind linesOf openingOf begunBy startOf settingsKept admits isMegaFrame atSomeRate second recordOf packetOf sound partsFit huntingFits isUnset isNothing isZero arrivalRefusal judgeArrived carries stepOf counted unheard lineOf siteLine endLine decimal decimalIn
+unfolding logBy came written placeAfter endingOf handledIn slaveBehind linesOf openingOf begunBy startOf settingsKept admits isMegaFrame atSomeRate second recordOf packetOf sound partsFit huntingFits isUnset isUncounted isNothing isZero arrivalRefusal judgeArrived carries stepOf counted unheard lineOf siteLine endLine decimal decimalIn
 in-two =
     record {
       read =

@@ -17,7 +17,7 @@ use Rattle.addressing.specs.Functions.{lengthFits, setBy, functionsIn, function
 use Rattle.addressing.specs.Entries.{addressed, entriesIn, settingsOf}
 use Rattle.notice.specs.Reader.{sectionRefusal}
 use Rattle.state.specs.Profile.{second, delayKept, settingsKept}
-use Rattle.state.specs.Sound.{isZero, frequencyFits, indexFits, isNothing, waitingFits, isUnset, huntingFits, lockedFits, partsFit, sound}
+use Rattle.state.specs.Sound.{isZero, frequencyFits, indexFits, isNothing, waitingFits, isUnset, isUncounted, huntingFits, lockedFits, partsFit, sound}
 use Rattle.state.specs.declared.Board.{Board}
 use Rattle.state.specs.declared.Slave.{Slave}
 use Rattle.judging.specs.Judge.{arrivalRefusal, carries, takenRefusal, limited, judgeMip, judgeArrived, judgeGiven}
@@ -183,7 +183,7 @@ pub computed :
     × Computed Z g markCalls markReplies (false ∷ true ∷ true ∷ [])
     × Computed A h otherCalls otherReplies (false ∷ true ∷ [])
     × Computed B k mipCalls mipReplies (false ∷ true ∷ true ∷ true ∷ [])
-unfolding places enterCall verdictAt judged enter countPlace tellGap untold hear leave startOf packetOf numbersOf gapOf sound settingsKept admits isMegaFrame atSomeRate second partsFit huntingFits isUnset isZero lockedFits frequencyFits indexFits waitingFits isNothing delayKept delayFits delayFitsA110 within arrivalRefusal carries takenRefusal limited judgeMip judgeArrived judgeGiven stepOf counted passed unheard took markAt markTaken noticeTaken releaseAt dueOf wrap modulation linkDelay gapped sectionRefusal settingsOf entriesIn functionsOf functionsIn lengthFits setBy addressed register registerFrom bitsIn bitIn
+unfolding places enterCall verdictAt judged enter countPlace tellGap untold hear leave startOf packetOf numbersOf gapOf sound settingsKept admits isMegaFrame atSomeRate second partsFit huntingFits isUnset isUncounted isZero lockedFits frequencyFits indexFits waitingFits isNothing delayKept delayFits delayFitsA110 within arrivalRefusal carries takenRefusal limited judgeMip judgeArrived judgeGiven stepOf counted passed unheard took markAt markTaken noticeTaken releaseAt dueOf wrap modulation linkDelay gapped sectionRefusal settingsOf entriesIn functionsOf functionsIn lengthFits setBy addressed register registerFrom bitsIn bitIn
 computed = (
   record {
     run = record { accepted = refl; rising = (lit≤ tt, (lit≤ tt, (lit≤ tt, (lit≤ tt, tt)))); genuine = (tt, (record { points = refl; here = refl }, (tt, (tt, (tt, (tt, tt)))))) };
@@ -237,7 +237,7 @@ pub read :
     × (labelIn (replyTo g (take 2 slipCalls) (quiet 3)) ≡ some 622)
     × (noticeIn (replyTo g (take 4 slipCalls) (tells 3 1244 4 (pos 0))) ≡ slip)
     × Timed 624 19_392_658 A 624 42
-unfolding enterCall verdictAt judged enter countPlace tellGap untold hear leave startOf packetOf numbersOf gapOf sound settingsKept admits second partsFit huntingFits isUnset isZero lockedFits frequencyFits indexFits waitingFits isNothing delayKept delayFits delayFitsA110 within arrivalRefusal carries takenRefusal limited judgeArrived judgeGiven stepOf counted passed unheard took markAt releaseAt dueOf wrap linkDelay gapped slaveAfter bookAfter
+unfolding enterCall verdictAt judged enter countPlace tellGap untold hear leave startOf packetOf numbersOf gapOf sound settingsKept admits second partsFit huntingFits isUnset isUncounted isZero lockedFits frequencyFits indexFits waitingFits isNothing delayKept delayFits delayFitsA110 within arrivalRefusal carries takenRefusal limited judgeArrived judgeGiven stepOf counted passed unheard took markAt releaseAt dueOf wrap linkDelay gapped slaveAfter bookAfter
 read = (
   sentences A .where-taken g slipCalls slipRun [] _ 620 _ refl _ refl,
   sentences A .elsewhere g slipCalls slipRun (take 2 slipCalls) _ 624 _ refl _ refl _ _ _ _ refl,

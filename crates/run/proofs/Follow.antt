@@ -9,7 +9,7 @@ use native.Mathlib.Omega.{arith}
 use lib.IntN.{ℤ, pos, _-ℤ_}
 use lib.Dec.{eqb, leb}
 use borrow.Author.Tests.{eqb-false, leb-true}
-use Rattle.wire.proofs.Tests.{both, split}
+use Rattle.wire.proofs.Tests.{both, pick, split}
 use Rattle.times.specs.Whole.{residue}
 use Rattle.times.specs.Release.{Times, released}
 use Rattle.times.proofs.Whole.{Diff, natural, sum, difference}
@@ -17,6 +17,7 @@ use Rattle.times.proofs.Laws.{released-reference}
 use Rattle.cadence.specs.Label.{labelOf, labelAt, nextLabel}
 use Rattle.state.specs.Profile.{second}
 use Rattle.state.specs.Slave.{nothing}
+use Rattle.state.specs.declared.Count.{Count}
 use Rattle.state.specs.declared.Waiting.{Waiting}
 use Rattle.state.specs.declared.Slave.{Slave}
 use Rattle.judging.specs.declared.Taken.{Taken}
@@ -122,7 +123,7 @@ module _ (A : Adapter) (s : Slave) (some-n : 0 < s .board .n) where
         timed = λ x m. time-at told od tick x (own-due _ _ s tick m);
       },
       record {
-        locked = refl;
+        locked = pick (λ (c : Count). eqb (c .phase) 2 ≡ true) (eqb (s .count .next) 0) _ _ (f .locked) (f .locked);
         place = f .place + 1;
         apart = let d = apart-at in record { is = omega arith };
         next = ap (nextLabel n) (f .next) ∙ mod-add-mod (f .place) n 1;
@@ -139,7 +140,7 @@ module _ (A : Adapter) (s : Slave) (some-n : 0 < s .board .n) where
   gap-tracks last u f k =
       rw (f .locked)
       (record {
-        locked = refl;
+        locked = f .locked;
         place = f .place + k;
         apart = let d = difference (f .apart) (natural k) in record { is = omega arith };
         next = ap (λ (l : ℕ). (l + k) % n) (f .next) ∙ mod-add-mod (f .place) n k;

@@ -120,32 +120,56 @@ fn from_body(b: &[u8]) -> &[u8]
     &b[start..]
 }
 
-// The slave whose body these bytes begin with.
+// The parts of the slave whose body these bytes begin with.
+fn board_in(b: &[u8]) -> Board
+    ensures { λ r. ⌜ r ≡ slaveIn (now (b .entry)) .board ⌝ }
+{
+    Board {
+        profile: wire::byte_at(b, 1),
+        n: wire::number16_at(b, 2),
+        site: wire::number16_at(b, 4),
+        tad: wire::number32_at(b, 6),
+    }
+}
+
+fn settings_in(b: &[u8]) -> Settings
+    ensures { λ r. ⌜ r ≡ slaveIn (now (b .entry)) .settings ⌝ }
+{
+    Settings {
+        od: wire::signed_16(wire::number16_at(b, 10)),
+        frequency: wire::signed_32(wire::number32_at(b, 12)),
+        power: wire::number16_at(b, 16),
+    }
+}
+
+fn count_in(b: &[u8]) -> Count
+    ensures { λ r. ⌜ r ≡ slaveIn (now (b .entry)) .count ⌝ }
+{
+    Count {
+        phase: wire::byte_at(b, 0),
+        next: wire::number16_at(b, 18),
+        index: wire::byte_at(b, 21),
+    }
+}
+
+fn waiting_in(b: &[u8]) -> Waiting
+    ensures { λ r. ⌜ r ≡ slaveIn (now (b .entry)) .waiting ⌝ }
+{
+    Waiting {
+        pending: wire::byte_at(b, 20),
+        sts: wire::number32_at(b, 22),
+        md: wire::number32_at(b, 26),
+    }
+}
+
 fn slave_in(b: &[u8]) -> Slave
     ensures { λ r. ⌜ r ≡ slaveIn (now (b .entry)) ⌝ }
 {
     Slave {
-        board: Board {
-            profile: wire::byte_at(b, 1),
-            n: wire::number16_at(b, 2),
-            site: wire::number16_at(b, 4),
-            tad: wire::number32_at(b, 6),
-        },
-        settings: Settings {
-            od: wire::signed_16(wire::number16_at(b, 10)),
-            frequency: wire::signed_32(wire::number32_at(b, 12)),
-            power: wire::number16_at(b, 16),
-        },
-        count: Count {
-            phase: wire::byte_at(b, 0),
-            next: wire::number16_at(b, 18),
-            index: wire::byte_at(b, 21),
-        },
-        waiting: Waiting {
-            pending: wire::byte_at(b, 20),
-            sts: wire::number32_at(b, 22),
-            md: wire::number32_at(b, 26),
-        },
+        board: board_in(b),
+        settings: settings_in(b),
+        count: count_in(b),
+        waiting: waiting_in(b),
     }
 }
 

@@ -9,7 +9,7 @@ use Rattle.state.specs.Slave.{nothing}
 use Rattle.state.specs.declared.Count.{Count}
 use Rattle.state.specs.declared.Waiting.{Waiting}
 use Rattle.state.specs.declared.Slave.{Slave}
-use Rattle.slave.specs.Step.{raised, lockedAt, movedTo}
+use Rattle.slave.specs.Step.{labelled, past, movedTo}
 use Rattle.slave.specs.Gap.{toMark, gapped}
 
 -- the packets before the next mark
@@ -26,13 +26,13 @@ module _ (s : Slave) (k : ℕ) where
   unfolding gapped
   gap-unheard e = rw (ne-eqb (s .count .phase) 2 e)
 
-  module _ (e : s .count .phase ≡ 2) (left : ℕ) (l : left ≡ toMark (s .board .n) (s .count .next)) (count : Count) (index : ℕ) (c : count ≡ lockedAt ((s .count .next + k) % s .board .n) index) where
-    pub gap-kept : index ≡ raised (s .count .index) 0 → k ≤ left → movedTo s (s .settings) count (s .waiting) ≡ gapped s k
+  module _ (e : s .count .phase ≡ 2) (left : ℕ) (l : left ≡ toMark (s .board .n) (s .count .next)) (after count : Count) (c : count ≡ labelled after ((s .count .next + k) % s .board .n)) where
+    pub gap-kept : after ≡ past (s .count) 0 → k ≤ left → movedTo s (s .settings) count (s .waiting) ≡ gapped s k
     unfolding gapped
     gap-kept q h = rw (eq-eqb (s .count .phase) 2 e, le-leb k (toMark (s .board .n) (s .count .next)) (omega arith), c, q)
 
-    pub gap-dropped : index ≡ raised (s .count .index) (1 + (k - 1 - left) / s .board .n) → left < k → {waiting : Waiting} → waiting ≡ nothing → movedTo s (s .settings) count waiting ≡ gapped s k
+    pub gap-dropped : after ≡ past (s .count) (1 + (k - 1 - left) / s .board .n) → left < k → {waiting : Waiting} → waiting ≡ nothing → movedTo s (s .settings) count waiting ≡ gapped s k
     unfolding gapped
     gap-dropped q h w =
-        let r : index ≡ raised (s .count .index) (suc ((k - 1 - toMark (s .board .n) (s .count .next)) / s .board .n)) = q ∙ ap (raised (s .count .index)) (one-add _ ∙ ap (λ (x : ℕ). suc ((k - 1 - x) / s .board .n)) l) in
+        let r : after ≡ past (s .count) (suc ((k - 1 - toMark (s .board .n) (s .count .next)) / s .board .n)) = q ∙ ap (past (s .count)) (one-add _ ∙ ap (λ (x : ℕ). suc ((k - 1 - x) / s .board .n)) l) in
         rw (eq-eqb (s .count .phase) 2 e, lt-leb k (toMark (s .board .n) (s .count .next)) (omega arith), c, r, w)

@@ -15,6 +15,7 @@ use Rattle.cadence.specs.MobileFrame.{frameMarks}
 use Rattle.state.specs.Slave.{unknown, nothing}
 use Rattle.state.specs.Sound.{indexFits, isNothing, waitingFits, sound}
 use Rattle.state.specs.declared.Board.{Board}
+use Rattle.state.specs.declared.Count.{Count}
 use Rattle.state.specs.declared.Waiting.{Waiting}
 use Rattle.state.specs.declared.Slave.{Slave}
 use Rattle.state.proofs.Sound.{admitted, some-packets, settings-kept, locked, fitting, is-sound}
@@ -24,7 +25,7 @@ use Rattle.judging.specs.declared.Numbers.{Numbers}
 use Rattle.judging.specs.declared.Taken.{Taken}
 use Rattle.judging.proofs.Taking.{IfTaken, Fit, packet-fit, numbers-fit}
 use Rattle.slave.specs.Answer.{Report, Result, left}
-use Rattle.slave.specs.Step.{raised, indexAt, passed, unheard, noticeBy, counted, agrees, took, stepOf}
+use Rattle.slave.specs.Step.{raised, countAt, passed, unheard, noticeBy, counted, agrees, took, stepOf}
 use Rattle.slave.specs.Gap.{toMark, marksIn, gapped}
 use Rattle.slave.specs.Calls.{packetOf, numbersOf, gapOf}
 
@@ -71,14 +72,17 @@ module _ (s : Slave) (ok : sound s ≡ true) where
   abbrev WaitingFits : Waiting → Type 0
   WaitingFits w = waitingFits (s .board) (s .settings .od) w ≡ true
 
-  index-at : IndexFits (indexAt (s .count))
-  index-at = pick IndexFits (eqb (s .count .next) 0) _ _ (raised-fits _ (s .count .index) 1 (fitting s ok .index)) (fitting s ok .index)
+  phase-at : countAt (s .count) .phase ≡ s .count .phase
+  phase-at = pick (λ (c : Count). c .phase ≡ s .count .phase) (eqb (s .count .next) 0) _ _ refl refl
+
+  index-at : IndexFits (countAt (s .count) .index)
+  index-at = pick (λ (c : Count). IndexFits (c .index)) (eqb (s .count .next) 0) _ _ (raised-fits _ (s .count .index) 1 (fitting s ok .index)) (fitting s ok .index)
 
   passed-sound : s .count .phase ≡ 2 → (k tick : ℕ) → sound (passed s (noticeBy k) tick .slave) ≡ true
   unfolding passed
   passed-sound e k tick =
       let l = locked s ok e in
-      is-sound _ refl (settings-kept s ok)
+      is-sound _ (phase-at ∙ e) (settings-kept s ok)
       (record {
         frequency = l .frequency;
         small = below (s .count .next + 1);
@@ -111,7 +115,7 @@ module _ (s : Slave) (ok : sound s ≡ true) where
       split (λ (x : Slave). sound x ≡ true) (eqb (s .count .phase) 2) _ _
       (λ e.
       let l = locked s ok (eqb-true _ _ e) in
-      is-sound _ refl (settings-kept s ok)
+      is-sound _ (eqb-true _ _ e) (settings-kept s ok)
       (record {
         frequency = l .frequency;
         small = below (s .count .next + k);

@@ -16,7 +16,7 @@ use Rattle.state.specs.declared.Waiting.{Waiting}
 use Rattle.state.specs.declared.Slave.{Slave}
 use Rattle.judging.specs.declared.Taken.{Taken}
 use Rattle.slave.specs.Answer.{Notice, ignored, Mark, unmarked, untimed, Report, Result, left}
-use Rattle.slave.specs.Step.{raised, placeOf, lockedAt, movedTo, releaseAt, onMark, markAt, indexAt, keptAt, countedReport, unheardReport, passed, unheard, noticeBy, counted, agrees, markTaken, indexBefore, indexAfter, turns, noticeTaken, entered, took}
+use Rattle.slave.specs.Step.{placeOf, labelled, past, lockedAt, movedTo, releaseAt, onMark, markAt, countAt, keptAt, countedReport, unheardReport, passed, unheard, noticeBy, counted, agrees, markTaken, indexBefore, indexAfter, turns, noticeTaken, entered, took}
 
 -- a number of C ignores the notice
 pub notice-ignored : (k : ℕ) → (k ≡ 0 → ⊥) → ignored k ≡ noticeBy k
@@ -50,29 +50,29 @@ module _ (s : Slave) (k tick : ℕ) where
 
   module _ (e : s .count .phase ≡ 2) where
     -- by a locked slave
-    pub counts-locked : (mark : Mark) (index : ℕ) (count : Count) (waiting : Waiting) (report : Report)
-        → mark ≡ markAt s tick → index ≡ indexAt (s .count) → count ≡ lockedAt (nextLabel (s .board .n) (s .count .next)) index
-        → waiting ≡ keptAt s → report ≡ countedReport (s .count .next) index (noticeBy k) mark
+    pub counts-locked : (mark : Mark) (after count : Count) (waiting : Waiting) (report : Report)
+        → mark ≡ markAt s tick → after ≡ countAt (s .count) → count ≡ labelled after (nextLabel (s .board .n) (s .count .next))
+        → waiting ≡ keptAt s → report ≡ countedReport (s .count .next) (after .index) (noticeBy k) mark
         → left (movedTo s (s .settings) count waiting) (given report) ≡ counted s k tick
     unfolding counted passed
-    counts-locked mark index count waiting report m i c w r = rw (r, c, w, m, i, eq-eqb (s .count .phase) 2 e)
+    counts-locked mark after count waiting report m i c w r = rw (r, c, w, m, i, eq-eqb (s .count .phase) 2 e)
 
     -- between the marks only the label moves
     pub counts-on : (s .count .next ≡ 0 → ⊥) → (next : ℕ) (report : Report) → next ≡ nextLabel (s .board .n) (s .count .next)
         → report ≡ countedReport (s .count .next) (s .count .index) (noticeBy k) unmarked
-        → left (movedTo s (s .settings) (record { phase = s .count .phase; next = next; index = s .count .index }) (s .waiting)) (given report) ≡ counted s k tick
+        → left (movedTo s (s .settings) (labelled (s .count) next) (s .waiting)) (given report) ≡ counted s k tick
     counts-on z next report n r =
         let y = ne-eqb (s .count .next) 0 z in
-        counts-locked unmarked (s .count .index) _ (s .waiting) report (mark-none s tick (rw (eq-eqb (s .count .phase) 2 e, y))) (rw y) (rw (e, n)) (rw y) r
+        counts-locked unmarked (s .count) _ (s .waiting) report (mark-none s tick (rw (eq-eqb (s .count .phase) 2 e, y))) (rw y) (ap (labelled (s .count)) n) (rw y) r
 
     -- on a mark the notice goes
-    pub counts-mark : s .count .next ≡ 0 → (mark : Mark) (index : ℕ) (count : Count) (report : Report)
-        → mark ≡ markAt s tick → index ≡ raised (s .count .index) 1 → count ≡ lockedAt (nextLabel (s .board .n) (s .count .next)) index
-        → report ≡ countedReport (s .count .next) index (noticeBy k) mark
+    pub counts-mark : s .count .next ≡ 0 → (mark : Mark) (after count : Count) (report : Report)
+        → mark ≡ markAt s tick → after ≡ past (s .count) 1 → count ≡ labelled after (nextLabel (s .board .n) (s .count .next))
+        → report ≡ countedReport (s .count .next) (after .index) (noticeBy k) mark
         → left (movedTo s (s .settings) count nothing) (given report) ≡ counted s k tick
-    counts-mark z mark index count report m i c r =
+    counts-mark z mark after count report m i c r =
         let y = eq-eqb (s .count .next) 0 z in
-        counts-locked mark index count nothing report m (rw y i) c (rw y) r
+        counts-locked mark after count nothing report m (rw y i) c (rw y) r
 
 -- ---- a notice that is taken
 module _ (s : Slave) (t : Taken) (tick label : ℕ) (l : label ≡ labelOf (s .board .n) (t .pointer)) where

@@ -5,7 +5,7 @@ use lib.Dec.{eqb, leb}
 use Rattle.state.specs.Slave.{nothing}
 use Rattle.state.specs.declared.Waiting.{Waiting}
 use Rattle.state.specs.declared.Slave.{Slave}
-use Rattle.slave.specs.Step.{raised, lockedAt, movedTo}
+use Rattle.slave.specs.Step.{labelled, past, movedTo}
 
 -- how many packets pass before the next mark
 abbrev pub toMark : ℕ → ℕ → ℕ
@@ -23,5 +23,5 @@ keptOver s k = cond (leb k (toMark (s .board .n) (s .count .next))) (s .waiting)
 unfoldable pub gapped : Slave → ℕ → Slave
 gapped s k =
     cond (eqb (s .count .phase) 2)
-    (movedTo s (s .settings) (lockedAt ((s .count .next + k) % s .board .n) (raised (s .count .index) (marksIn (s .board .n) (s .count .next) k))) (keptOver s k))
+    (movedTo s (s .settings) (labelled (past (s .count) (marksIn (s .board .n) (s .count .next) k)) ((s .count .next + k) % s .board .n)) (keptOver s k))
     s

@@ -25,7 +25,14 @@ raised index marks = cond (eqb index unknown) unknown ((index + marks) % frameMa
 abbrev pub placeOf : ℕ → ℕ → Option ℕ
 placeOf index label = cond (eqb index unknown) none (some (mobilePlace ((index + 19) % frameMarks) label))
 
--- the count of a locked slave, and a slave with what a step may change
+-- the count with another label, and after some marks
+abbrev pub labelled : Count → ℕ → Count
+labelled c next = record { phase = c .phase; next = next; index = c .index }
+
+abbrev pub past : Count → ℕ → Count
+past c marks = record { phase = c .phase; next = c .next; index = raised (c .index) marks }
+
+-- the count of a slave that takes a notice, and a slave with what a step may change
 abbrev pub lockedAt : (next index : ℕ) → Count
 lockedAt next index = record { phase = 2; next = next; index = index }
 
@@ -45,9 +52,9 @@ onMark c = eqb (c .phase) 2 && eqb (c .next) 0
 unfoldable pub markAt : Slave → ℕ → Mark
 markAt s tick = cond (onMark (s .count)) (cond (eqb (s .waiting .pending) 1) (releaseAt s tick) untimed) unmarked
 
--- the index after the mark on this packet, and what is kept of a pending notice
-abbrev pub indexAt : Count → ℕ
-indexAt c = cond (eqb (c .next) 0) (raised (c .index) 1) (c .index)
+-- the count after the mark on this packet, and what is kept of a pending notice
+abbrev pub countAt : Count → Count
+countAt c = cond (eqb (c .next) 0) (past c 1) c
 
 abbrev pub keptAt : Slave → Waiting
 keptAt s = cond (eqb (s .count .next) 0) nothing (s .waiting)
@@ -64,8 +71,8 @@ unheardReport notice = record { label = none; notice = notice; turn = false; mar
 unfoldable pub passed : Slave → Notice → ℕ → Result Report
 passed s notice tick =
     left
-    (movedTo s (s .settings) (lockedAt (nextLabel (s .board .n) (s .count .next)) (indexAt (s .count))) (keptAt s))
-    (given (countedReport (s .count .next) (indexAt (s .count)) notice (markAt s tick)))
+    (movedTo s (s .settings) (labelled (countAt (s .count)) (nextLabel (s .board .n) (s .count .next))) (keptAt s))
+    (given (countedReport (s .count .next) (countAt (s .count) .index) notice (markAt s tick)))
 
 -- a hunting slave stays as it is
 unfoldable pub unheard : Slave → Notice → Result Report
@@ -90,7 +97,7 @@ markTaken s label tick = cond (agrees (s .count) label) (markAt s tick) (cond (e
 
 -- the index before the notice's own: a slip and the first lock have none
 abbrev pub indexBefore : Count → ℕ → ℕ
-indexBefore c label = cond (agrees c label) (indexAt c) unknown
+indexBefore c label = cond (agrees c label) (countAt c .index) unknown
 
 -- an unknown index keeps what is there, any other enters
 abbrev pub indexAfter : ℕ → ℕ → ℕ

@@ -4,7 +4,7 @@ use Rattle.wire.specs.Reply.{refused, given}
 use Rattle.state.specs.Slave.{cold, nothing}
 use Rattle.state.specs.declared.Slave.{Slave}
 use Rattle.slave.specs.Answer.{absent, reportOf, Report, Result, left}
-use Rattle.slave.specs.Step.{movedTo, unheardReport}
+use Rattle.slave.specs.Step.{labelled, movedTo, unheardReport}
 use Rattle.slave.specs.declared.Short.{Short}
 use Rattle.slave.specs.declared.Marked.{Marked}
 use Rattle.slave.specs.declared.Moved.{Moved}
@@ -15,7 +15,7 @@ use Rattle.slave.specs.declared.Way.the-variants as way
 abbrev pub shortOf : Slave → Short → Result Report
 shortOf s q =
     left
-    (movedTo s (s .settings) (record { phase = s .count .phase; next = q .next; index = s .count .index }) (s .waiting))
+    (movedTo s (s .settings) (labelled (s .count) (q .next)) (s .waiting))
     (given (reportOf (q .report)))
 
 -- the count moves, and nothing waits any more

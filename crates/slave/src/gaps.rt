@@ -39,7 +39,7 @@ pub(crate) fn gapped(s: Slave, k: u16) -> Slave
         return Slave {
             board: board,
             settings: settings,
-            count: steps::locked_at(after, steps::raised(count.index, 0)),
+            count: steps::labelled(steps::past(count, 0), after),
             waiting: waiting,
         };
     }
@@ -47,7 +47,7 @@ pub(crate) fn gapped(s: Slave, k: u16) -> Slave
     Slave {
         board: board,
         settings: settings,
-        count: steps::locked_at(after, steps::raised(count.index, marks)),
+        count: steps::labelled(steps::past(count, marks), after),
         waiting: state::nothing_waiting(),
     }
 }

@@ -19,7 +19,7 @@ ghost use lib.Dec.{eqb};
 ghost use Rattle.cadence.specs.Label.{nextLabel};
 ghost use Rattle.state.specs.Sound.{sound};
 ghost use Rattle.slave.specs.Answer.{optionOf, noticeOf, markOf, reportOf, untimed, unmarked};
-ghost use Rattle.slave.specs.Step.{raised, placeOf, lockedAt, onMark, markAt, indexAt, keptAt, countedReport, unheardReport, noticeBy, counted, agrees, indexBefore, indexAfter, turns, noticeTaken, took};
+ghost use Rattle.slave.specs.Step.{raised, placeOf, labelled, past, lockedAt, onMark, markAt, countAt, keptAt, countedReport, unheardReport, noticeBy, counted, agrees, indexBefore, indexAfter, turns, noticeTaken, took};
 ghost use Rattle.slave.specs.Ready.{Ready};
 ghost use Rattle.slave.specs.Ways.{shortOf, markedOf, movedOf};
 
@@ -27,7 +27,7 @@ ghost use Rattle.slave.specs.Ways.{shortOf, markedOf, movedOf};
 const UNKNOWN: u8 = 255;
 
 // A known index after some marks.
-pub(crate) fn raised(index: u8, marks: u32) -> u8
+fn raised(index: u8, marks: u32) -> u8
     requires { ⌜ marks ≤ 65536 ⌝ }
     ensures { λ r. ⌜ r ≡ raised index marks ⌝ }
 {
@@ -37,8 +37,27 @@ pub(crate) fn raised(index: u8, marks: u32) -> u8
     ((index as u32 + marks) % 20) as u8
 }
 
-// The count of a locked slave.
-pub(crate) fn locked_at(next: u16, index: u8) -> Count
+// The count with another label.
+pub(crate) fn labelled(c: Count, next: u16) -> Count
+    ensures { λ r. ⌜ r ≡ labelled c next ⌝ }
+{
+    let mut d = c;
+    d.next = next;
+    d
+}
+
+// The count after some marks.
+pub(crate) fn past(c: Count, marks: u32) -> Count
+    requires { ⌜ marks ≤ 65536 ⌝ }
+    ensures { λ r. ⌜ r ≡ past c marks ⌝ }
+{
+    let mut d = c;
+    d.index = raised(c.index, marks);
+    d
+}
+
+// The count of a slave that takes a notice.
+fn locked_at(next: u16, index: u8) -> Count
     ensures { λ r. ⌜ r ≡ lockedAt next index ⌝ }
 {
     Count {
@@ -163,10 +182,10 @@ pub(crate) fn pass_mark(s: Slave, own: MarkPart) -> Marked
     let board = s.board;
     let count = s.count;
     let label = count.next;
-    let index = raised(count.index, 1);
+    let after = past(count, 1);
     Marked {
-        count: locked_at(next_label(board.n, label), index),
-        report: counted(label, index, 0, own),
+        count: labelled(after, next_label(board.n, label)),
+        report: counted(label, after.index, 0, own),
     }
 }
 
@@ -200,12 +219,12 @@ pub(crate) fn ignore(s: Slave, k: u8, own: MarkPart) -> Moved
         };
     }
     let label = count.next;
-    let index = index_at(count);
+    let after = count_at(count);
     Moved {
         settings: settings,
-        count: locked_at(next_label(board.n, label), index),
+        count: labelled(after, next_label(board.n, label)),
         waiting: kept_at(s),
-        report: counted(label, index, k, own),
+        report: counted(label, after.index, k, own),
     }
 }
 
@@ -232,14 +251,14 @@ fn mark_taken(c: Count, label: u16, own: MarkPart) -> MarkPart
     MarkPart::Unmarked
 }
 
-// The index after the mark on this packet.
-fn index_at(c: Count) -> u8
-    ensures { λ r. ⌜ r ≡ indexAt c ⌝ }
+// The count after the mark on this packet.
+fn count_at(c: Count) -> Count
+    ensures { λ r. ⌜ r ≡ countAt c ⌝ }
 {
     if c.next == 0 {
-        return raised(c.index, 1);
+        return past(c, 1);
     }
-    c.index
+    c
 }
 
 // The index before the notice's own: a slip and the first lock have none.
@@ -247,7 +266,8 @@ fn index_before(c: Count, label: u16) -> u8
     ensures { λ r. ⌜ r ≡ indexBefore c label ⌝ }
 {
     if agrees(c, label) {
-        return index_at(c);
+        let after = count_at(c);
+        return after.index;
     }
     UNKNOWN
 }

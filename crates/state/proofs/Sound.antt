@@ -13,7 +13,7 @@ use Rattle.cadence.specs.Cadence.{admits}
 use Rattle.cadence.proofs.Lengths.{admitted-range}
 use Rattle.state.specs.Profile.{second, delayKept, settingsKept}
 use Rattle.state.specs.Slave.{hunting}
-use Rattle.state.specs.Sound.{isZero, frequencyFits, indexFits, isNothing, waitingFits, isUnset, huntingFits, lockedFits, partsFit, sound}
+use Rattle.state.specs.Sound.{isZero, frequencyFits, indexFits, isNothing, waitingFits, isUnset, isUncounted, huntingFits, lockedFits, partsFit, sound}
 use Rattle.state.specs.declared.Board.{Board}
 use Rattle.state.specs.declared.Slave.{Slave}
 
@@ -89,15 +89,14 @@ module _ (s : Slave) (ok : sound s ≡ true) where
 
   -- a slave that is not locked hunts
   hunting-parts : (s .count .phase ≡ 1) → (frequencyFits (s .settings .frequency) ≡ true) × (s .count .next ≡ 0) × (s .count .index ≡ 255)
-  unfolding huntingFits isUnset
+  unfolding huntingFits isUnset isUncounted
   hunting-parts e =
       let h : hunts ≡ true = rw (eq-eqb (s .count .phase) 1 e) at phases in
       let t = isUnset (s .settings) in
-      let a = both (t && eqb (s .count .next) 0 && eqb (s .count .index) 255) _ h .0 in
-      let b = both (t && eqb (s .count .next) 0) _ a in
-      let c = both t _ (b .0) in
+      let c = both t (isUncounted (s .count)) (both (t && isUncounted (s .count)) _ h .0) in
+      let u = both (eqb (s .count .next) 0) _ (c .1) in
       let f = both (isZero (s .settings .od)) _ (both (isZero (s .settings .od) && isZero (s .settings .frequency)) _ (c .0) .0) .1 in
-      (zero-fits _ f, eqb-true _ _ (c .1), eqb-true _ _ (b .1))
+      (zero-fits _ f, eqb-true _ _ (u .0), eqb-true _ _ (u .1))
 
   locking : (s .count .phase ≡ 1 → ⊥) → (s .count .phase ≡ 2) × (locks ≡ true)
   locking h =
@@ -165,5 +164,5 @@ unfolding sound partsFit lockedFits
 is-sound s p k l = rw (k, p, l .frequency, l .small, l .index, l .held)
 
 pub hunting-sound : (b : Board) → settingsKept b ≡ true → sound (hunting b) ≡ true
-unfolding sound partsFit huntingFits isUnset isNothing isZero
+unfolding sound partsFit huntingFits isUnset isUncounted isNothing isZero
 hunting-sound b e = rw e

@@ -41,9 +41,13 @@ waitingFits b od w =
 unfoldable pub isUnset : Settings → Bool
 isUnset t = isZero (t .od) && isZero (t .frequency) && eqb (t .power) 0
 
+-- label 0 and the unknown index
+unfoldable pub isUncounted : Count → Bool
+isUncounted c = eqb (c .next) 0 && eqb (c .index) unknown
+
 -- hunting has its zeros and the unknown index
 unfoldable pub huntingFits : Settings → Count → Waiting → Bool
-huntingFits t c w = isUnset t && eqb (c .next) 0 && eqb (c .index) unknown && isNothing w
+huntingFits t c w = isUnset t && isUncounted c && isNothing w
 
 unfoldable pub lockedFits : Board → Settings → Count → Waiting → Bool
 lockedFits b t c w =

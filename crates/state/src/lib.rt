@@ -7,7 +7,7 @@ ghost use mathlib.Core.Path.{_≡_};
 ghost use Rattle.times.specs.Release.{inSecond};
 ghost use Rattle.state.specs.Profile.{second, delayKept, settingsKept};
 ghost use Rattle.state.specs.Slave.{nothing, uncounted, cold, hunting};
-ghost use Rattle.state.specs.Sound.{isZero, frequencyFits, indexFits, isNothing, waitingFits, isUnset, huntingFits, lockedFits, partsFit, sound};
+ghost use Rattle.state.specs.Sound.{isZero, frequencyFits, indexFits, isNothing, waitingFits, isUnset, isUncounted, huntingFits, lockedFits, partsFit, sound};
 
 // The settings of a start. TAD is in the profile's own unit.
 #[repr(C)]
@@ -202,6 +202,16 @@ fn is_unset(t: Settings) -> bool
     t.power == 0
 }
 
+// Label 0 and the unknown index.
+fn is_uncounted(c: Count) -> bool
+    ensures { λ r. ⌜ r ≡ isUncounted c ⌝ }
+{
+    if c.next != 0 {
+        return false;
+    }
+    c.index == 255
+}
+
 // Hunting has its zeros and the unknown index.
 fn hunting_fits(t: Settings, c: Count, w: Waiting) -> bool
     ensures { λ r. ⌜ r ≡ huntingFits t c w ⌝ }
@@ -209,10 +219,7 @@ fn hunting_fits(t: Settings, c: Count, w: Waiting) -> bool
     if !is_unset(t) {
         return false;
     }
-    if c.next != 0 {
-        return false;
-    }
-    if c.index != 255 {
+    if !is_uncounted(c) {
         return false;
     }
     is_nothing(w)

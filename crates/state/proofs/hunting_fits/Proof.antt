@@ -18,22 +18,21 @@ returns : tie.Need-returns
 unfolding huntingFits
 returns c = rw (sym (c .before .is-unset .ensures) ∙ not-true _ (c .if1 .taken))
 
+is-uncounted-requires : tie.Need-is-uncounted-requires
+is-uncounted-requires c κs = search needs
+
 returns-2 : tie.Need-returns-2
 unfolding huntingFits
-returns-2 c = rw (unset (c .before .before), ne-eqb _ _ (c .if2 .taken))
-
-returns-3 : tie.Need-returns-3
-unfolding huntingFits
-returns-3 c = rw (unset (c .before .before .before .before), eq-eqb _ _ (c .before .before .if2 .left), ne-eqb _ _ (c .if3 .taken))
+returns-2 c = rw (unset (c .before .before), sym (c .before .is-uncounted .ensures) ∙ not-true _ (c .if2 .taken))
 
 is-nothing-requires : tie.Need-is-nothing-requires
 is-nothing-requires c κs = search needs
 
-returns-4 : tie.Need-returns-4
+returns-3 : tie.Need-returns-3
 unfolding huntingFits
-returns-4 c = rw (unset (c .before .before .before .before .before), eq-eqb _ _ (c .before .before .before .if2 .left), eq-eqb _ _ (c .before .if3 .left)) (c .is-nothing .ensures)
+returns-3 c = rw (unset (c .before .before .before), sym (c .before .before .is-uncounted .ensures) ∙ not-false _ (c .before .if2 .left)) (c .is-nothing .ensures)
 
 pub hunting-fits-spec : {M : Type 1} → statement M
 hunting-fits-spec =
     tie.close
-    (tie.spec is-unset-requires returns returns-2 returns-3 is-nothing-requires returns-4)
+    (tie.spec is-unset-requires returns is-uncounted-requires returns-2 is-nothing-requires returns-3)

@@ -50,9 +50,9 @@ use Rattle.state.specs.Slave.{cold, nothing as none-waits}
 use Rattle.slave.specs.Answer.{reportOf}
 use Rattle.slave.specs.Calls.{packetOf}
 use Rattle.slave.specs.Ways.{wayOf}
+use Rattle.slave.specs.Step.{labelled}
 use Rattle.replies.specs.Flat.{flatReport, flatReply, flatLeft, flatStep}
 use Rattle.vikombare.specs.Flat.{tickOn}
-use Rattle.state.specs.declared.Count.{Count}
 use Rattle.state.specs.declared.Waiting.{Waiting}
 use Rattle.state.specs.declared.Slave.{Slave}
 use Rattle.slave.specs.declared.Short.{Short}
@@ -145,9 +145,6 @@ moved h m = record { board = h .board; settings = m .settings; count = m .count;
 
 abbrev marked : Slave → Marked → Waiting → Slave
 marked h m w = record { board = h .board; settings = h .settings; count = m .count; waiting = w }
-
-abbrev labelled : Count → ℕ → Count
-labelled c k = record { phase = c .phase; next = k; index = c .index }
 
 abbrev counted : Slave → Short → Slave
 counted h q = record { board = h .board; settings = h .settings; count = labelled (h .count) (q .next); waiting = h .waiting }

@@ -37,16 +37,16 @@ rem-after c = omega (arith, some (c .before .before .before .before .before .bef
 cast-after : tie.Need-cast-after
 cast-after c = let a = c .before .before .before .before .before .before .before .before .before .args in omega (arith, mod-lt (a .s .count .next + a .k) {m = a .s .board .n} (some (c .before .before .before .before .before .before .before .before .before)))
 
-raised-requires : tie.Need-raised-requires
-raised-requires c κs = search needs
+past-requires : tie.Need-past-requires
+past-requires c κs = search needs
 
-locked-at-requires : tie.Need-locked-at-requires
-locked-at-requires c κs = search needs
+labelled-requires : tie.Need-labelled-requires
+labelled-requires c κs = search needs
 
 returns-2 : tie.Need-returns-2
 returns-2 c =
     let a = c .before .before .before .before .before .before .before .before .before .before .before .before .args in
-    gap-kept (a .s) (a .k) (c .before .before .before .before .before .before .if1 .left) _ (c .before .before .before .to-mark .ensures) _ _ (c .locked-at .ensures) (c .before .raised .ensures) (c .before .before .if2 .taken)
+    gap-kept (a .s) (a .k) (c .before .before .before .before .before .before .if1 .left) _ (c .before .before .before .to-mark .ensures) _ _ (c .labelled .ensures) (c .before .past .ensures) (c .before .before .if2 .taken)
 
 sub-marks : tie.Need-sub-marks
 sub-marks c = search needs
@@ -60,11 +60,11 @@ div-marks c = omega (arith, some (c .before .before .before .before .before .bef
 add-marks : tie.Need-add-marks
 add-marks c = let a = c .before .before .before .before .before .before .before .before .before .before .args in omega (arith, div-le-self (a .k - 1 - c .before .to-mark .result) (a .s .board .n))
 
-raised-requires-2 : tie.Need-raised-requires-2
-raised-requires-2 c κs = let a = c .before .before .before .before .before .before .before .before .before .before .args in omega (arith, div-le-self (a .k - 1 - c .before .to-mark .result) (a .s .board .n))
+past-requires-2 : tie.Need-past-requires-2
+past-requires-2 c κs = let a = c .before .before .before .before .before .before .before .before .before .before .args in omega (arith, div-le-self (a .k - 1 - c .before .to-mark .result) (a .s .board .n))
 
-locked-at-requires-2 : tie.Need-locked-at-requires-2
-locked-at-requires-2 c κs = search needs
+labelled-requires-2 : tie.Need-labelled-requires-2
+labelled-requires-2 c κs = search needs
 
 nothing-waiting-requires : tie.Need-nothing-waiting-requires
 nothing-waiting-requires c κs = search needs
@@ -72,7 +72,7 @@ nothing-waiting-requires c κs = search needs
 returns-3 : tie.Need-returns-3
 returns-3 c =
     let a = c .before .before .before .before .before .before .before .before .before .before .before .before .before .args in
-    gap-dropped (a .s) (a .k) (c .before .before .before .before .before .before .before .if1 .left) _ (c .before .before .before .before .to-mark .ensures) _ _ (c .before .locked-at2 .ensures) (c .before .before .raised2 .ensures) (c .before .before .before .if2 .left) (c .nothing-waiting .ensures)
+    gap-dropped (a .s) (a .k) (c .before .before .before .before .before .before .before .if1 .left) _ (c .before .before .before .before .to-mark .ensures) _ _ (c .before .labelled2 .ensures) (c .before .before .past2 .ensures) (c .before .before .before .if2 .left) (c .nothing-waiting .ensures)
 
 pub gapped-spec : {M : Type 1} → statement M
 gapped-spec =
@@ -85,14 +85,14 @@ gapped-spec =
     add-after
     rem-after
     cast-after
-    raised-requires
-    locked-at-requires
+    past-requires
+    labelled-requires
     returns-2
     sub-marks
     sub-marks-2
     div-marks
     add-marks
-    raised-requires-2
-    locked-at-requires-2
+    past-requires-2
+    labelled-requires-2
     nothing-waiting-requires
     returns-3)
