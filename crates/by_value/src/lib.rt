@@ -92,11 +92,61 @@ fn applied(mut s: Slave, w: Way) -> Stepped
     }
 }
 
-// A packet with its arrival tick.
-pub fn packet(s: Slave, p: &[u8], tick: u32) -> Stepped
+// A packet with its arrival tick. It has its own match, so that the compiler keeps the way out of memory.
+pub fn packet(mut s: Slave, p: &[u8], tick: u32) -> Stepped
     ensures { λ r. ⌜ steppedOf r ≡ packetOf s (now (p .entry)) tick ⌝ }
 {
-    applied(s, slave::way_of(s, p, tick))
+    match slave::way_of(s, p, tick) {
+        Way::Hunts => {
+            return Stepped {
+                slave: s,
+                answer: Answer::Counted(unheard()),
+            };
+        }
+        Way::Short(q) => {
+            let report = q.report;
+            s.count.next = q.next;
+            return Stepped {
+                slave: s,
+                answer: Answer::Counted(report),
+            };
+        }
+        Way::Marked(m) => {
+            let count = m.count;
+            let report = m.report;
+            s.count = count;
+            s.waiting = state::nothing_waiting();
+            return Stepped {
+                slave: s,
+                answer: Answer::Counted(report),
+            };
+        }
+        Way::Moved(m) => {
+            let settings = m.settings;
+            let count = m.count;
+            let waiting = m.waiting;
+            let report = m.report;
+            s.settings = settings;
+            s.count = count;
+            s.waiting = waiting;
+            return Stepped {
+                slave: s,
+                answer: Answer::Counted(report),
+            };
+        }
+        Way::Refused(k) => {
+            return Stepped {
+                slave: s,
+                answer: Answer::Refused(k),
+            };
+        }
+        Way::Cold => {
+            return Stepped {
+                slave: state::cold_slave(),
+                answer: Answer::Refused(15),
+            };
+        }
+    }
 }
 
 // A numbers notice with its packet and arrival tick.
@@ -106,11 +156,11 @@ pub fn numbers_notice(s: Slave, p: &[u8], tick: u32, x: Numbers) -> Stepped
     applied(s, slave::numbers_way(s, p, tick, x))
 }
 
-// A packet, with the reply as plain numbers. It has its own match, so that the compiler keeps the way out of memory.
-pub fn packet_step(mut s: Slave, p: &[u8], tick: u32) -> Step
-    ensures { λ r. ⌜ r ≡ flatStep (packetOf s (now (p .entry)) tick) ⌝ }
+// A packet, with the reply as plain numbers.
+pub fn packet_step(mut s: Slave, p: &[u8], arrival: u32) -> Step
+    ensures { λ r. ⌜ r ≡ flatStep (packetOf s (now (p .entry)) arrival) ⌝ }
 {
-    match slave::way_of(s, p, tick) {
+    match slave::way_of(s, p, arrival) {
         Way::Short(q) => {
             let report = q.report;
             s.count.next = q.next;

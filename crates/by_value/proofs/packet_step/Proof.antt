@@ -14,7 +14,7 @@ use Rattle.by_value.proofs.packet_step.Statement.{statement}
 use Rattle.by_value.proofs.packet_step.Tie as tie
 
 -- what is known of the way
-told : (c : tie.After-way-of) (w : Way) → c .way-of .result ≡ w → let a = c .before .before .args in flatStep (wayOf (a .s) w) ≡ flatStep (packetOf (a .s) (now (a .p)) (a .tick))
+told : (c : tie.After-way-of) (w : Way) → c .way-of .result ≡ w → let a = c .before .before .args in flatStep (wayOf (a .s) w) ≡ flatStep (packetOf (a .s) (now (a .p)) (a .arrival))
 told c w e = ap flatStep (ap (wayOf (c .before .before .args .s)) (sym e) ∙ c .way-of .ensures)
 
 way-of-requires : tie.Need-way-of-requires
