@@ -1,4 +1,6 @@
 // Big-endian numbers, two's complement, and bytes put into a lent buffer: what every format here is made of.
+#![tactic(auto)]
+
 ghost use Rattle.std.specs.Prelude.{◌≡◌, ◌+◌, ◌≤◌, get_or};
 ghost use Rattle.wire.specs.BigEndian.{be16_at, be24_at, be32_at, byte0, bytes16, bytes32};
 ghost use Rattle.wire.specs.Signed.{signed, signed16, signed24, signed32, bits16, bits32};
