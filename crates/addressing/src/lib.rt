@@ -1,11 +1,13 @@
 // The individual addressing field of a notice, TS 101 191 clause 6: its form, and the settings that it gives a site.
+#![tactic(auto)]
+
 ghost use Rattle.std.specs.Prelude.{◌≡◌, cond};
 ghost use Rattle.addressing.specs.Functions.{no_settings, length_fits, set_by, functions_of};
 ghost use Rattle.addressing.specs.Entries.{addressed, settings_of, well_formed, walked_reply};
 
 // What a site can be told: time offset in 100 ns steps, frequency offset in Hz, power in 0.1 dBm.
 #[repr(C)]
-#[derive(Drop)]
+#[derive(Clone, Copy)]
 pub struct Settings {
     pub od: i16,
     pub power: u16,
@@ -13,7 +15,7 @@ pub struct Settings {
 }
 
 // The settings after a field, or none of a field of wrong form.
-#[derive(Drop)]
+#[derive(Clone, Copy)]
 pub enum Walked {
     Set(Settings),
     Malformed,
@@ -31,6 +33,7 @@ pub fn no_settings() -> Settings
 }
 
 // Whether a function of this tag may have this length.
+#[tactic(auto, unfolding(crate::specs::Functions::length_fits))]
 fn length_fits(tag: u8, n: usize) -> bool
     ensures { result ≡ length_fits tag n }
 {
@@ -47,6 +50,7 @@ fn length_fits(tag: u8, n: usize) -> bool
 }
 
 // Whether an entry for id is addressed to the site.
+#[tactic(auto, unfolding(crate::specs::Entries::addressed))]
 fn addressed(site: u16, id: u16) -> bool
     ensures { result ≡ addressed site id }
 {
@@ -57,6 +61,7 @@ fn addressed(site: u16, id: u16) -> bool
 }
 
 // The settings after one function, where it applies.
+#[tactic(auto, unfolding(crate::specs::Functions::set_by))]
 fn set_by(on: bool, tag: u8, body: &[u8], t: Settings) -> Settings
     ensures { result ≡ cond on (set_by tag body.now t) t }
 {
@@ -80,6 +85,7 @@ fn set_by(on: bool, tag: u8, body: &[u8], t: Settings) -> Settings
 }
 
 // The settings after the functions of a loop, where they apply.
+#[tactic(auto, unfolding(crate::specs::Functions::functions_of))]
 fn functions(on: bool, s: &[u8], before: Settings) -> Walked
     ensures { walked_reply result ≡ functions_of on s.now before }
 {
@@ -107,6 +113,7 @@ fn functions(on: bool, s: &[u8], before: Settings) -> Walked
 }
 
 // The settings of a site after an addressing field, later entries replacing earlier ones; a setting that no entry gives is kept.
+#[tactic(auto, unfolding(crate::specs::Entries::settings_of))]
 pub fn settings_of(s: &[u8], site: u16, before: Settings) -> Walked
     ensures { walked_reply result ≡ settings_of s.now site before }
 {
@@ -134,6 +141,7 @@ pub fn settings_of(s: &[u8], site: u16, before: Settings) -> Walked
 }
 
 // Whether an addressing field has the form of clause 6.
+#[tactic(auto, unfolding(crate::specs::Entries::well_formed))]
 pub fn well_formed(s: &[u8]) -> bool
     ensures { result ≡ well_formed s.now }
 {

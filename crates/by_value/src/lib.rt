@@ -1,4 +1,6 @@
 // A packet and a numbers notice by value: the slave goes in, and comes back with the reply, as the slave's answer or as plain numbers for C.
+#![tactic(auto)]
+
 ghost use Rattle.std.specs.Prelude.{◌≡◌};
 ghost use Rattle.slave.specs.Answer.{absent, report_of};
 ghost use Rattle.slave.specs.Step.{unheard_report};
@@ -13,7 +15,7 @@ use slave::{Answer, Counted, MarkPart, Maybe, NoticePart, Way};
 use state::Slave;
 
 // What a packet or a numbers notice leaves and replies.
-#[derive(Drop)]
+#[derive(Clone, Copy)]
 pub struct Stepped {
     pub slave: Slave,
     pub answer: Answer,

@@ -1,11 +1,13 @@
 // The cadence: how many packets it has, the label of a packet in it, and the packet's place in the M/H frame.
+#![tactic(auto)]
+
 ghost use Rattle.std.specs.Prelude.{◌≡◌, [], ◌∷◌, eqb};
 ghost use Rattle.cadence.specs.Cadence.{bits_of, numerator_of, denominator_of, length_of, any_of, at_some_rate, is_mega_frame, admits};
 ghost use Rattle.cadence.specs.Label.{label_of, pointer_of, in_cadence, label_reply};
 ghost use Rattle.cadence.specs.MobileFrame.{mobile_place};
 
 // How many bits a carrier has: v is 2, 4 or 6.
-#[derive(Drop)]
+#[derive(Clone, Copy)]
 pub enum Constellation {
     Qpsk,
     Qam16,
@@ -13,7 +15,7 @@ pub enum Constellation {
 }
 
 // r is 1/2, 2/3, 3/4, 5/6 or 7/8.
-#[derive(Drop)]
+#[derive(Clone, Copy)]
 pub enum CodeRate {
     Half,
     TwoThirds,
@@ -23,7 +25,7 @@ pub enum CodeRate {
 }
 
 // A label or a pointer, or the number that document 01 refuses with.
-#[derive(Drop)]
+#[derive(Clone, Copy)]
 pub enum LabelAnswer {
     Given(u16),
     Refused(u8),
@@ -96,6 +98,7 @@ fn one_of(n: u16, a: u16, b: u16, c: u16, d: u16, e: u16) -> bool
 }
 
 // Whether n is the length of a mega-frame with this constellation.
+#[tactic(auto, unfolding(crate::specs::Cadence::at_some_rate))]
 fn at_some_rate(n: u16, c: Constellation) -> bool
     ensures { result ≡ at_some_rate n c }
 {
@@ -110,6 +113,7 @@ fn at_some_rate(n: u16, c: Constellation) -> bool
 }
 
 // Whether n is the length of a mega-frame.
+#[tactic(auto, unfolding(crate::specs::Cadence::is_mega_frame))]
 fn is_mega_frame(n: u16) -> bool
     ensures { result ≡ is_mega_frame n }
 {
@@ -126,6 +130,7 @@ fn is_mega_frame(n: u16) -> bool
 }
 
 // Whether the profile has cadences of n packets.
+#[tactic(auto, unfolding(crate::specs::Cadence::admits))]
 pub fn admits(profile: u8, n: u16) -> bool
     ensures { result ≡ admits profile n }
 {

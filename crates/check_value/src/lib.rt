@@ -1,4 +1,6 @@
 // The check value of TS 101 191 annex A: the CRC decoder's register after some bytes, eight of them a turn.
+#![tactic(auto)]
+
 ghost use Rattle.std.specs.Prelude.{◌≡◌, ◌+◌, ◌*◌, ◌%◌, ◌^◌, ◌<◌, ◌≤◌, length};
 ghost use Rattle.wire.specs.BigEndian.{be32_at};
 ghost use Rattle.check_value.specs.Register.{bits_in, register, sealed_at};
@@ -45,6 +47,7 @@ fn nibble_in(x: u64, a: u32, b: u32, c: u32, d: u32) -> u32
 
 // What eight bytes leave of a register of zeros: bit k of w, from the lowest on, leaves x^(32 + k) modulo the polynomial of annex A.
 // The last bytes come first: their look-ups do not wait for the register.
+#[tactic(auto, unfolding(crate::specs::Register::bits_in))]
 fn eight_in(w: u64) -> u32
     ensures { result ≡ bits_in 64 0 w }
 {
@@ -67,6 +70,7 @@ fn eight_in(w: u64) -> u32
 }
 
 // The register z after the byte b.
+#[tactic(auto, unfolding(crate::specs::Register::bits_in))]
 fn byte_in(z: u32, b: u8) -> u32
     ensures { result ≡ bits_in 8 z b }
 {
@@ -77,6 +81,7 @@ fn byte_in(z: u32, b: u8) -> u32
 }
 
 // The register after the bytes of s.
+#[tactic(auto, unfolding(crate::specs::Register::register))]
 pub fn register_of(s: &[u8]) -> u32
     ensures { result ≡ register s.now }
 {
@@ -96,6 +101,7 @@ pub fn register_of(s: &[u8]) -> u32
 }
 
 // Puts the check value of the first `end` bytes behind them; puts nothing where it does not fit.
+#[tactic(auto, unfolding(crate::specs::Register::sealed_at))]
 pub fn seal(out: &mut [u8], end: usize)
     ensures { out.new ≡ sealed_at end out.old }
 {

@@ -1,4 +1,6 @@
 // How a packet and a numbers notice are judged (document 01, "Numbers a call can refuse with").
+#![tactic(auto)]
+
 ghost use Rattle.std.specs.Prelude.{◌≡◌, ◌||◌, eqb, ltb};
 ghost use Rattle.judging.specs.Judgement.{judgement_of};
 ghost use Rattle.judging.specs.Judge.{arrival_refusal, carries, taken_refusal, limited, mip_taken, judge_mip, judge_arrived, judge_given};
@@ -9,7 +11,7 @@ use times::Periods;
 
 // What a numbers notice carries: profile 1 alone has it. The index is the next mark's, 255 for unknown.
 #[repr(C)]
-#[derive(Drop)]
+#[derive(Clone, Copy)]
 pub struct Numbers {
     pub pointer: u16,
     pub sts: Periods,
@@ -19,7 +21,7 @@ pub struct Numbers {
 }
 
 // What a notice that is taken gives, in the profile's own unit.
-#[derive(Drop)]
+#[derive(Clone, Copy)]
 pub struct Taken {
     pub pointer: u16,
     pub index: u8,
@@ -29,7 +31,7 @@ pub struct Taken {
 }
 
 // How a packet that arrived right was judged: it carries no notice; a number of C ignores its notice; or its notice is taken.
-#[derive(Drop)]
+#[derive(Clone, Copy)]
 pub enum Judged {
     Plain,
     Counts(u8),

@@ -1,4 +1,6 @@
 // The log's lines: from the bytes of a capture to the bytes that the log program prints (document 01, the paragraph on the log program).
+#![tactic(auto)]
+
 ghost use Rattle.std.specs.Prelude.{◌≡◌, ◌≤◌, min, length, take, drop};
 ghost use Rattle.slave.specs.Answer.{outcome_of, shifted_of};
 ghost use Rattle.text.specs.Puts.{Fronts};
@@ -21,14 +23,14 @@ pub const OPENING_ROOM: usize = text::SITE_ROOM;
 pub const ENDING_ROOM: usize = text::LINE_ROOM + text::END_ROOM;
 
 // What the settings at the front of a capture give, and how many bytes were written.
-#[derive(Drop)]
+#[derive(Clone, Copy)]
 pub struct Begun {
     pub started: Shifted,
     pub filled: usize,
 }
 
 // What a piece of a capture leaves: the slave, the next record's number, how many bytes were used and how many written.
-#[derive(Drop)]
+#[derive(Clone, Copy)]
 pub struct Piece {
     pub slave: Slave,
     pub number: u64,
@@ -37,7 +39,7 @@ pub struct Piece {
 }
 
 // What a piece leaves that is read into a buffer: held bytes of it stand at the buffer's front.
-#[derive(Drop)]
+#[derive(Clone, Copy)]
 pub struct Held {
     pub slave: Slave,
     pub number: u64,

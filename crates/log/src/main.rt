@@ -1,4 +1,6 @@
 // The log of a capture: reads standard input, and writes a line for each record to standard output.
+#![tactic(auto)]
+
 ghost use Rattle.std.specs.Prelude.{◌≡◌, ◌≤◌, length};
 
 use libc::{STDIN_FILENO, STDOUT_FILENO};
@@ -13,7 +15,7 @@ const INPUT_ROOM: usize = RECORDS * lines::RECORD_LENGTH;
 const OUTPUT_ROOM: usize = RECORDS * text::LINE_ROOM;
 
 // Where the log stands: the slave, the next record's number, and how many bytes at the front of the input are still to be used.
-#[derive(Drop)]
+#[derive(Clone, Copy)]
 struct Place {
     slave: Slave,
     number: u64,

@@ -1,4 +1,6 @@
 // The Mega-frame Initialization Packet, TS 101 191 clause 6, read from any bytes: each field of table 1, and the notice.
+#![tactic(auto)]
+
 ghost use Rattle.std.specs.Prelude.{◌≡◌};
 ghost use Rattle.check_value.specs.Register.{register};
 ghost use Rattle.notice.specs.Mip.{sync, error_indicator, unit_start_and_priority, packet_identifier, scrambling_and_adaptation, continuity_counter, synchronization_id, section_length, pointer, periodic_flag, future_use, synchronization_time_stamp, maximum_delay, tps_mip, individual_addressing_length, addressing_field, through_check, notice_in};
@@ -9,7 +11,7 @@ use wire::ADDRESSING_START;
 
 // What a notice says beside its addressing field.
 #[repr(C)]
-#[derive(Drop)]
+#[derive(Clone, Copy)]
 pub struct Notice {
     pub continuity: u8,
     pub pointer: u16,
@@ -21,7 +23,7 @@ pub struct Notice {
 }
 
 // What reading answers.
-#[derive(Drop)]
+#[derive(Clone, Copy)]
 pub enum Reading {
     Accepted(Notice),
     Refused(u8),

@@ -1,5 +1,7 @@
 // Calls that a board does not link, for C, so that another implementation can be compared with them and speed can be measured: what the slave stands on,
 // and packets by value. For tests.
+#![tactic(auto)]
+
 ghost use Rattle.std.specs.Prelude.{◌≡◌};
 ghost use Rattle.wire.specs.Standards.{dvb_second, a110_second};
 ghost use Rattle.check_value.specs.Register.{register};
@@ -20,7 +22,7 @@ use state::Slave;
 use times::{Periods, Steps};
 
 #[repr(C)]
-#[derive(Drop)]
+#[derive(Clone, Copy)]
 pub struct ProbeSettings {
     pub number: u8,
     pub od: i16,
@@ -29,7 +31,7 @@ pub struct ProbeSettings {
 }
 
 #[repr(C)]
-#[derive(Drop)]
+#[derive(Clone, Copy)]
 pub struct ProbeLabel {
     pub number: u8,
     pub value: u16,

@@ -1,4 +1,6 @@
 // The replies of the calls as plain numbers, for C: what a reply has not is 0 or false.
+#![tactic(auto)]
+
 ghost use Rattle.std.specs.Prelude.{◌≡◌};
 ghost use Rattle.wire.specs.Reply.{refused, number_of};
 ghost use Rattle.slave.specs.Answer.{option_of, notice_of, mark_of, report_of, outcome_of};
@@ -9,7 +11,7 @@ use state::Slave;
 
 // What a mark is released with, in the unit of its profile.
 #[repr(C)]
-#[derive(Drop)]
+#[derive(Clone, Copy)]
 pub struct MarkTimes {
     pub reference: u32,
     pub emission: u32,
@@ -20,7 +22,7 @@ pub struct MarkTimes {
 // A mark: 0 none, 1 untimed, 2 late, 3 released in profile 0 with its times in steps of 100 ns, 4 released in profile 1 with its times in bit periods.
 // The number is that of a late mark, else 0. In C the times are a union with a member for each unit.
 #[repr(C)]
-#[derive(Drop)]
+#[derive(Clone, Copy)]
 pub struct Mark {
     pub kind: u8,
     pub number: u8,
@@ -29,7 +31,7 @@ pub struct Mark {
 
 // The reply to a packet or a numbers notice. The number refuses the whole call, or is 0. The notice's part: 0 none, 1 taken, 2 slip, 3 ignored with its number.
 #[repr(C)]
-#[derive(Drop)]
+#[derive(Clone, Copy)]
 pub struct PacketReply {
     pub number: u8,
     pub has_label: bool,
@@ -44,7 +46,7 @@ pub struct PacketReply {
 
 // What a packet or a numbers notice leaves and replies, by value.
 #[repr(C)]
-#[derive(Drop)]
+#[derive(Clone, Copy)]
 pub struct Step {
     pub slave: Slave,
     pub reply: PacketReply,

@@ -1,4 +1,6 @@
 // The saved block (document 01, "Saved block"): a slave saved into a lent buffer, and resumed from any bytes on a board.
+#![tactic(auto)]
+
 ghost use Rattle.std.specs.Prelude.{◌≡◌, ◌-◌};
 ghost use Rattle.wire.specs.Reply.{refused};
 ghost use Rattle.state.specs.Slave.{hunting};

@@ -1,4 +1,6 @@
 // The slave: it follows the cadence, takes notices and places marks in time (document 01, "Steps of a slave").
+#![tactic(auto)]
+
 ghost use Rattle.std.specs.Prelude.{◌≡◌};
 ghost use Rattle.slave.specs.Answer.{shifted_of};
 ghost use Rattle.slave.specs.Calls.{start_of, packet_of, numbers_of, gap_of};
@@ -13,14 +15,14 @@ use state::{Board, Count, Slave, Waiting};
 use times::{A110Times, DvbTimes};
 
 // A label or a place.
-#[derive(Drop)]
+#[derive(Clone, Copy)]
 pub enum Maybe {
     Nothing,
     Just(u16),
 }
 
 // The notice's part of a reply.
-#[derive(Drop)]
+#[derive(Clone, Copy)]
 pub enum NoticePart {
     Absent,
     Taken,
@@ -29,7 +31,7 @@ pub enum NoticePart {
 }
 
 // The mark's part of a reply, in the profile's own unit.
-#[derive(Drop)]
+#[derive(Clone, Copy)]
 pub enum MarkPart {
     Unmarked,
     Untimed,
@@ -40,7 +42,7 @@ pub enum MarkPart {
 }
 
 // The report on a counted packet.
-#[derive(Drop)]
+#[derive(Clone, Copy)]
 pub struct Counted {
     pub label: Maybe,
     pub notice: NoticePart,
@@ -50,42 +52,42 @@ pub struct Counted {
 }
 
 // The reply to a packet or a numbers notice.
-#[derive(Drop)]
+#[derive(Clone, Copy)]
 pub enum Answer {
     Refused(u8),
     Counted(Counted),
 }
 
 // The reply to a start or a gap.
-#[derive(Drop)]
+#[derive(Clone, Copy)]
 pub enum Outcome {
     Done,
     Refused(u8),
 }
 
 // What a start or a gap leaves and replies.
-#[derive(Drop)]
+#[derive(Clone, Copy)]
 pub struct Shifted {
     pub slave: Slave,
     pub outcome: Outcome,
 }
 
 // The next label moves, and nothing else of the slave.
-#[derive(Drop)]
+#[derive(Clone, Copy)]
 pub struct Short {
     pub next: u16,
     pub report: Counted,
 }
 
 // A mark is passed: the count moves, and nothing waits any more.
-#[derive(Drop)]
+#[derive(Clone, Copy)]
 pub struct Marked {
     pub count: Count,
     pub report: Counted,
 }
 
 // All that a packet may change.
-#[derive(Drop)]
+#[derive(Clone, Copy)]
 pub struct Moved {
     pub settings: Settings,
     pub count: Count,
@@ -95,7 +97,7 @@ pub struct Moved {
 
 // What a packet does to a slave. Cold: it is not sound (15). Refused: by a number of K. Packets without a notice have three ways of their own: a hunting
 // slave stays as it is, the label moves on, or a mark is passed.
-#[derive(Drop)]
+#[derive(Clone, Copy)]
 pub enum Way {
     Cold,
     Refused(u8),
@@ -106,7 +108,7 @@ pub enum Way {
 }
 
 // What a mark is released with, in the unit of either profile.
-#[derive(Drop)]
+#[derive(Clone, Copy)]
 struct PlainTimes {
     reference: u32,
     emission: u32,

@@ -1,5 +1,7 @@
 // A slave's records, and which of them are sound: the settings of a start, those in force, the count and the waiting notice
 // (document 01, "Steps of a slave" and "Saved block").
+#![tactic(auto)]
+
 ghost use Rattle.std.specs.Prelude.{◌≡◌};
 ghost use Rattle.times.specs.Release.{in_second};
 ghost use Rattle.state.specs.Profile.{second, delay_kept, settings_kept};
@@ -11,7 +13,7 @@ use times::{Periods, Steps};
 
 // The settings of a start. TAD is in the profile's own unit.
 #[repr(C)]
-#[derive(Drop)]
+#[derive(Clone, Copy)]
 pub struct Board {
     pub profile: u8,
     pub n: u16,
@@ -21,7 +23,7 @@ pub struct Board {
 
 // Where the slave stands in the cadence: its phase, the next packet's label and the next mark's index.
 #[repr(C)]
-#[derive(Drop)]
+#[derive(Clone, Copy)]
 pub struct Count {
     pub phase: u8,
     pub next: u16,
@@ -30,7 +32,7 @@ pub struct Count {
 
 // The notice that waits for its mark, in the profile's own unit.
 #[repr(C)]
-#[derive(Drop)]
+#[derive(Clone, Copy)]
 pub struct Waiting {
     pub pending: u8,
     pub sts: u32,
@@ -39,7 +41,7 @@ pub struct Waiting {
 
 // A slave: the settings of its start, those in force, its count and its waiting notice.
 #[repr(C)]
-#[derive(Drop)]
+#[derive(Clone, Copy)]
 pub struct Slave {
     pub board: Board,
     pub settings: Settings,

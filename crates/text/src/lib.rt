@@ -1,5 +1,7 @@
 // The lines of the log as text (document 01, the paragraph on the log program), each put into a lent buffer from byte `at` on. Each call answers the byte
 // after what it put.
+#![tactic(auto)]
+
 ghost use Rattle.std.specs.Prelude.{◌≡◌, [], ◌∷◌, ◌+◌, ◌-◌, ◌≤◌, length};
 ghost use Rattle.slave.specs.Answer.{option_of, notice_of, mark_of, report_of, answer_of};
 ghost use Rattle.text.specs.Decimal.{decimal, most_digits};

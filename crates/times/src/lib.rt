@@ -1,6 +1,8 @@
 // The units of time, and what the limits say of them: document 01, "Two clocks", and refusals 3, 11, 13 and 15 where they speak of times.
 // The work is done once, for a second of u units; the public calls are its two profiles, each in its own unit. What a mark is released with stands
 // here too; a release is reckoned in crate `slave`, where the limits are known to hold.
+#![tactic(auto)]
+
 ghost use Rattle.std.specs.Prelude.{◌≡◌, pos, ◌+ℤ◌};
 ghost use Rattle.wire.specs.Standards.{dvb_second, a110_second};
 ghost use Rattle.times.specs.Whole.{within};
@@ -8,16 +10,16 @@ ghost use Rattle.times.specs.Release.{in_second, delay_fits, delay_fits_a110};
 
 // A time or a delay of profile 0, in steps of 100 ns.
 #[repr(C)]
-#[derive(Drop)]
+#[derive(Clone, Copy)]
 pub struct Steps(pub u32);
 
 // A time or a delay of profile 1, in transport stream bit periods.
 #[repr(C)]
-#[derive(Drop)]
+#[derive(Clone, Copy)]
 pub struct Periods(pub u32);
 
 // What a mark of profile 0 is released with. The wait is in steps too.
-#[derive(Drop)]
+#[derive(Clone, Copy)]
 pub struct DvbTimes {
     pub reference: Steps,
     pub emission: Steps,
@@ -26,7 +28,7 @@ pub struct DvbTimes {
 }
 
 // What a mark of profile 1 is released with. The wait is in periods too.
-#[derive(Drop)]
+#[derive(Clone, Copy)]
 pub struct A110Times {
     pub reference: Periods,
     pub emission: Periods,
@@ -47,6 +49,7 @@ fn in_second(u: u32, t: u32) -> bool
 }
 
 // A signed sum is within low to u − 1.
+#[tactic(auto, unfolding(crate::specs::Whole::within))]
 fn sum_within(low: u32, u: u32, sum: i64) -> bool
     ensures { result ≡ within low u sum }
 {
@@ -64,6 +67,7 @@ fn delay(md: u32, od: i16) -> i64
 }
 
 // 13 in profile 0, and the first part of it in profile 1.
+#[tactic(auto, unfolding(crate::specs::Release::delay_fits))]
 fn delay_fits(u: u32, md: u32, od: i16) -> bool
     ensures { result ≡ delay_fits u md od }
 {
@@ -72,6 +76,7 @@ fn delay_fits(u: u32, md: u32, od: i16) -> bool
 }
 
 // 13 in profile 1.
+#[tactic(auto, unfolding(crate::specs::Release::delay_fits_a110))]
 fn total_fits(u: u32, md: u32, od: i16, tad: u32) -> bool
     ensures { result ≡ delay_fits_a110 u md od tad }
 {
@@ -97,6 +102,7 @@ pub fn a110_in_second(t: Periods) -> bool
 }
 
 // Whether MD and OD of profile 0 pass 13.
+#[tactic(auto, unfolding(crate::specs::Release::delay_fits))]
 pub fn dvb_delay_fits(md: Steps, od: i16) -> bool
     ensures { result ≡ delay_fits dvb_second md.0 od }
 {
@@ -104,6 +110,7 @@ pub fn dvb_delay_fits(md: Steps, od: i16) -> bool
 }
 
 // Whether MD, OD and TAD of profile 1 pass 13.
+#[tactic(auto, unfolding(crate::specs::Release::delay_fits_a110))]
 pub fn a110_delay_fits(md: Periods, od: i16, tad: Periods) -> bool
     ensures { result ≡ delay_fits_a110 a110_second md.0 od tad.0 }
 {

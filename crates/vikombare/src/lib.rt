@@ -1,6 +1,8 @@
 // The calls that a board's firmware links, for C: a slave's start, packets in place, numbers notices and gaps, its saved block, and notices read and
 // written. include/vikombare.h is their header, which stores the slaves that are handed back by value. No call has a condition on its numbers: bad
 // input gets its number of document 01's table.
+#![tactic(auto)]
+
 ghost use Rattle.std.specs.Prelude.{◌≡◌, length};
 ghost use Rattle.notice.specs.Mip.{addressing_field};
 ghost use Rattle.notice.specs.Reader.{read_of};
@@ -21,7 +23,7 @@ use writer::WriteOutcome;
 
 // An arrival tick with its clock: profile 0 counts steps of 100 ns, profile 1 bit periods.
 #[repr(C)]
-#[derive(Drop)]
+#[derive(Clone, Copy)]
 pub struct Tick {
     pub profile: u8,
     pub count: u32,
@@ -29,7 +31,7 @@ pub struct Tick {
 
 // What a start, a gap or a resume leaves: the number is 0 where nothing refuses.
 #[repr(C)]
-#[derive(Drop)]
+#[derive(Clone, Copy)]
 pub struct Change {
     pub slave: Slave,
     pub number: u8,
@@ -37,7 +39,7 @@ pub struct Change {
 
 // A notice that was read: its fields, and the length of its addressing field, which begins at byte 21 of the packet.
 #[repr(C)]
-#[derive(Drop)]
+#[derive(Clone, Copy)]
 pub struct NoticeRead {
     pub number: u8,
     pub notice: Notice,

@@ -1,4 +1,6 @@
 // The Mega-frame Initialization Packet, TS 101 191 clause 6, written into a lent buffer.
+#![tactic(auto)]
+
 ghost use Rattle.std.specs.Prelude.{◌≡◌, ◌++◌, ◌+◌, ◌-◌, ◌≤◌, length, take, drop};
 ghost use Rattle.wire.specs.Standards.{packet_length, addressing_start, check_length, longest_addressing};
 ghost use Rattle.writer.specs.Writer.{write_refusal, flags_of, head_of, fields_of, stuffing, write_of, output_of};
@@ -8,7 +10,7 @@ use notice::Notice;
 use wire::{ADDRESSING_START, LONGEST_ADDRESSING, PACKET_LENGTH};
 
 // What writing answers.
-#[derive(Drop)]
+#[derive(Clone, Copy)]
 pub enum WriteOutcome {
     Done,
     Refused(u8),
