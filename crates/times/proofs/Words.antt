@@ -58,7 +58,7 @@ module _ {v w : ℕ} {x y : ℤ} {j k : ℕ} (p : Holds v x j) (q : Holds w y k)
   difference_holds l = record { is = to_z-of_z (difference_fits l) ∙ cc; small = difference_small }
 
 pub from_i64 : {z : ℤ} {k : ℕ} → nat_abs z ≤ k → k < 2 ^ 63 → Holds (of_z w64 z) z k
-from_i64 {z} h l = record { is = to_z-of_z (record { sfits = omega (arith, mag_least z) }); small = h }
+from_i64 {z} h l = record { is = to_z-of_z {w = w64} (record { sfits = omega (arith, mag_least z) }); small = h }
 
 -- ---- a test against an unsigned number
 pub test : {z : ℤ} {n : ℕ} → SFits w64 z → n < 2 ^ 32 → lt_z (to_z w64 (of_z w64 z)) (to_z w64 n) ≡ lt_z z (pos n)
