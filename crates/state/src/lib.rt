@@ -101,6 +101,7 @@ pub fn hunting_slave(b: Board) -> Slave
 }
 
 // A tick, an STS, an MD or a TAD is within the profile's second.
+#[tactic(auto, unfolding(crate::specs::Profile::second))]
 pub fn in_second(profile: u8, t: u32) -> bool
     ensures { result ≡ in_second (second profile) t }
 {
@@ -111,6 +112,7 @@ pub fn in_second(profile: u8, t: u32) -> bool
 }
 
 // 13, in the profile's own unit.
+#[tactic(auto, unfolding(crate::specs::Profile::delay_kept))]
 pub fn delay_kept(b: Board, md: u32, od: i16) -> bool
     ensures { result ≡ delay_kept b md od }
 {
@@ -121,6 +123,7 @@ pub fn delay_kept(b: Board, md: u32, od: i16) -> bool
 }
 
 // The limits of a start's settings.
+#[tactic(auto, unfolding(crate::specs::Profile::settings_kept))]
 pub fn settings_kept(b: Board) -> bool
     ensures { result ≡ settings_kept b }
 {
@@ -134,6 +137,7 @@ pub fn settings_kept(b: Board) -> bool
 }
 
 // A number is 0.
+#[tactic(auto, unfolding(crate::specs::Sound::is_zero))]
 fn is_zero(z: i32) -> bool
     ensures { result ≡ is_zero z }
 {
@@ -144,6 +148,7 @@ fn is_zero(z: i32) -> bool
 }
 
 // Signed 24 bits.
+#[tactic(auto, unfolding(crate::specs::Sound::frequency_fits))]
 fn frequency_fits(z: i32) -> bool
     ensures { result ≡ frequency_fits z }
 {
@@ -154,6 +159,7 @@ fn frequency_fits(z: i32) -> bool
 }
 
 // The next mark's index: unknown, else 0 to 19 in profile 1.
+#[tactic(auto, unfolding(crate::specs::Sound::index_fits))]
 fn index_fits(profile: u8, index: u8) -> bool
     ensures { result ≡ index_fits profile index }
 {
@@ -167,6 +173,7 @@ fn index_fits(profile: u8, index: u8) -> bool
 }
 
 // Nothing pending has STS and MD 0.
+#[tactic(auto, unfolding(crate::specs::Sound::is_nothing))]
 fn is_nothing(w: Waiting) -> bool
     ensures { result ≡ is_nothing w }
 {
@@ -180,6 +187,7 @@ fn is_nothing(w: Waiting) -> bool
 }
 
 // Nothing, or a pending notice that is in range and satisfies 13.
+#[tactic(auto, unfolding(crate::specs::Sound::waiting_fits))]
 fn waiting_fits(b: Board, od: i16, w: Waiting) -> bool
     ensures { result ≡ waiting_fits b od w }
 {
@@ -196,6 +204,7 @@ fn waiting_fits(b: Board, od: i16, w: Waiting) -> bool
 }
 
 // OD, frequency and power 0.
+#[tactic(auto, unfolding(crate::specs::Sound::is_unset))]
 fn is_unset(t: Settings) -> bool
     ensures { result ≡ is_unset t }
 {
@@ -209,6 +218,7 @@ fn is_unset(t: Settings) -> bool
 }
 
 // Label 0 and the unknown index.
+#[tactic(auto, unfolding(crate::specs::Sound::is_uncounted))]
 fn is_uncounted(c: Count) -> bool
     ensures { result ≡ is_uncounted c }
 {
@@ -219,6 +229,7 @@ fn is_uncounted(c: Count) -> bool
 }
 
 // Hunting has its zeros and the unknown index.
+#[tactic(auto, unfolding(crate::specs::Sound::hunting_fits))]
 fn hunting_fits(t: Settings, c: Count, w: Waiting) -> bool
     ensures { result ≡ hunting_fits t c w }
 {
@@ -232,6 +243,7 @@ fn hunting_fits(t: Settings, c: Count, w: Waiting) -> bool
 }
 
 // A locked slave's parts are in their ranges.
+#[tactic(auto, unfolding(crate::specs::Sound::locked_fits))]
 fn locked_fits(b: Board, t: Settings, c: Count, w: Waiting) -> bool
     ensures { result ≡ locked_fits b t c w }
 {
@@ -248,6 +260,7 @@ fn locked_fits(b: Board, t: Settings, c: Count, w: Waiting) -> bool
 }
 
 // The parts besides the start's settings.
+#[tactic(auto, unfolding(crate::specs::Sound::parts_fit))]
 pub fn parts_fit(s: Slave) -> bool
     ensures { result ≡ parts_fit s }
 {
@@ -265,6 +278,7 @@ pub fn parts_fit(s: Slave) -> bool
 }
 
 // A slave whose parts a saved body may hold.
+#[tactic(auto, unfolding(crate::specs::Sound::sound))]
 pub fn is_sound(s: Slave) -> bool
     ensures { result ≡ sound s }
 {
