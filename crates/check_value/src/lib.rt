@@ -47,7 +47,6 @@ fn nibble_in(x: u64, a: u32, b: u32, c: u32, d: u32) -> u32
 
 // What eight bytes leave of a register of zeros: bit k of w, from the lowest on, leaves x^(32 + k) modulo the polynomial of annex A.
 // The last bytes come first: their look-ups do not wait for the register.
-#[tactic(auto, unfolding(crate::specs::Register::bits_in))]
 fn eight_in(w: u64) -> u32
     ensures { result ≡ bits_in 64 0 w }
 {
@@ -70,7 +69,6 @@ fn eight_in(w: u64) -> u32
 }
 
 // The register z after the byte b.
-#[tactic(auto, unfolding(crate::specs::Register::bits_in))]
 fn byte_in(z: u32, b: u8) -> u32
     ensures { result ≡ bits_in 8 z b }
 {
@@ -81,7 +79,6 @@ fn byte_in(z: u32, b: u8) -> u32
 }
 
 // The register after the bytes of s.
-#[tactic(auto, unfolding(crate::specs::Register::register))]
 pub fn register_of(s: &[u8]) -> u32
     ensures { result ≡ register s.now }
 {
