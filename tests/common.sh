@@ -5,12 +5,7 @@ mkdir -p "$out"
 
 # The proved code: what a board links as target/staticlib/libvikombare.a, and calls for tests as target/staticlib/libprobe.a.
 proved() {
-    proving staticlib vikombare && proving staticlib probe
-}
-
-# The log program as target/bin/log.
-program() {
-    proving check log
+    library vikombare && library probe
 }
 
 # build NAME FILE WORDS...: target/tests/NAME from tests/FILE, offline and with the standard library alone.

@@ -6,44 +6,33 @@ say() {
     printf '%s\n' "$*" >&3
 }
 
-# reached [CRATE]: how many crates of the repository CRATE and all that it uses are; without a name, all of them. crates.txt lists a crate behind those
-# that it uses.
-reached() {
-    awk -F: -v crate="${1:-}" '
-        /^[a-z]/ { name[++n] = $1; uses[$1] = $2 }
-        END {
-            wanted[crate] = 1
-            for (; n > 0; n--)
-                if (crate == "" || name[n] in wanted) {
-                    count++
-                    k = split(uses[name[n]], used, " ")
-                    for (i = 1; i <= k; i++) wanted[used[i]] = 1
-                }
-            print count
-        }' crates.txt
-}
-
-# proving WORDS...: runs rt WORDS..., prints what it prints and ends as it ends. Each crate that is proved now gets a line of progress; one that was
-# proved before is counted alone.
+# proving WORD CRATE: runs rt WORD in the crate's folder, prints what it prints and ends as it ends. Each crate whose functions are proved now gets a line
+# of progress; one that was proved before is counted with no line.
 proving() {
-    say "rt $*: $(reached "${2:-}") crates; those that are not proved yet are proved now, which takes minutes from nothing"
-    (rt "$@" 2>&1 && echo "proving ended 0" || echo "proving ended $?") | (
-        all=$(reached "${2:-}") at=0
+    say "rt $1 $2: the crates that are not proved yet are proved now, which takes minutes from nothing"
+    (cd "crates/$2" && rt "$1" </dev/null 2>&1 && echo "proving ended 0" || echo "proving ended $?") | (
         while IFS= read -r line; do
             case $line in
             'proving ended '*) exit "${line##* }" ;;
-            'rt: '*' proved (unchanged'*) at=$((at + 1)) ;;
-            'rt: '*' proved ('* | 'rt: '*' NOT PROVED'*)
-                at=$((at + 1))
-                say "  $at of $all: ${line#rt: }"
-                ;;
-            'rt: target/staticlib/'*)
-                at=$((at + 1)) library=${line#rt: }
-                say "  $at of $all: ${library%% *} is built"
+            'checked '*', 1 of '*)
+                crate=${line#checked }
+                say "  ${crate%%::*}: ${line##* } functions"
                 ;;
             esac
             printf '%s\n' "$line"
         done
         exit 2
     )
+}
+
+# library CRATE: target/staticlib/libCRATE.a, proved.
+library() {
+    mkdir -p target/staticlib
+    proving lib "$1" && cp "crates/$1/out/lib$1.a" target/staticlib/
+}
+
+# program: the log program as target/bin/log, proved.
+program() {
+    mkdir -p target/bin
+    proving run capture_log && cp crates/capture_log/out/capture_log target/bin/log
 }

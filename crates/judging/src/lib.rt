@@ -41,6 +41,7 @@ pub enum Judged {
 const UNKNOWN: u8 = 255;
 
 // 1, 2 or 3, or 0 for none.
+#[tactic(auto, unfolding(crate::specs::Judge::arrival_refusal))]
 pub fn arrival_refusal(profile: u8, p: &[u8], tick: u32) -> u8
     ensures { result ≡ arrival_refusal profile p.now tick }
 {
@@ -58,6 +59,7 @@ pub fn arrival_refusal(profile: u8, p: &[u8], tick: u32) -> u8
 }
 
 // Whether the packet carries a notice for a slave of this profile.
+#[tactic(auto, unfolding(crate::specs::Judge::carries))]
 fn carries(profile: u8, p: &[u8]) -> bool
     ensures { result ≡ carries profile p.now }
 {
@@ -78,6 +80,7 @@ fn index_allowed(index: u8) -> bool
 }
 
 // 11, 12 or 13, or 0 for none.
+#[tactic(auto, unfolding(crate::specs::Judge::taken_refusal))]
 fn taken_refusal(b: Board, t: Taken) -> u8
     ensures { result ≡ taken_refusal b t }
 {
@@ -101,6 +104,7 @@ fn taken_refusal(b: Board, t: Taken) -> u8
 }
 
 // A notice that is otherwise right: 11 to 13 ignore it, else it is taken.
+#[tactic(auto, unfolding(crate::specs::Judge::limited))]
 fn limited(b: Board, t: Taken) -> Judged
     ensures { judgement_of result ≡ limited b t }
 {
@@ -127,6 +131,7 @@ fn mip_taken(p: &[u8], settings: Settings) -> Taken
 }
 
 // A MIP: 6 to 9, then one walk of its addressing field for its form and what it sets, then 11 to 13.
+#[tactic(auto, unfolding(crate::specs::Judge::judge_mip))]
 fn judge_mip(b: Board, t: Settings, p: &[u8]) -> Judged
     ensures { judgement_of result ≡ judge_mip b t p.now }
 {
@@ -142,6 +147,7 @@ fn judge_mip(b: Board, t: Settings, p: &[u8]) -> Judged
 }
 
 // A packet that arrived right. 4 comes before the PID.
+#[tactic(auto, unfolding(crate::specs::Judge::judge_arrived))]
 pub fn judge_arrived(b: Board, t: Settings, p: &[u8]) -> Judged
     ensures { judgement_of result ≡ judge_arrived b t p.now }
 {
@@ -155,6 +161,7 @@ pub fn judge_arrived(b: Board, t: Settings, p: &[u8]) -> Judged
 }
 
 // A numbers notice whose packet arrived right. Frequency and power stay as they are.
+#[tactic(auto, unfolding(crate::specs::Judge::judge_given))]
 pub fn judge_given(b: Board, t: Settings, p: &[u8], x: Numbers) -> Judged
     ensures { judgement_of result ≡ judge_given b t p.now x }
 {

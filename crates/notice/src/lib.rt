@@ -146,6 +146,7 @@ fn check_left(p: &[u8]) -> u32
 }
 
 // 1, 2, 4 or 5, or 0 for none.
+#[tactic(auto, unfolding(crate::specs::Reader::packet_refusal))]
 fn packet_refusal(p: &[u8]) -> u8
     ensures { result ≡ packet_refusal p.now }
 {
@@ -165,6 +166,7 @@ fn packet_refusal(p: &[u8]) -> u8
 }
 
 // 6 to 9, or 0 for none.
+#[tactic(auto, unfolding(crate::specs::Reader::section_refusal))]
 pub fn section_refusal(p: &[u8]) -> u8
     ensures { result ≡ section_refusal p.now }
 {
@@ -192,6 +194,7 @@ pub fn section_refusal(p: &[u8]) -> u8
 }
 
 // 10 or 11, or 0 for none.
+#[tactic(auto, unfolding(crate::specs::Reader::body_refusal))]
 fn body_refusal(p: &[u8]) -> u8
     ensures { result ≡ body_refusal p.now }
 {
@@ -208,6 +211,7 @@ fn body_refusal(p: &[u8]) -> u8
 }
 
 // The number that a packet is refused with, or 0 for none.
+#[tactic(auto, unfolding(crate::specs::Reader::read_refusal))]
 fn read_refusal(p: &[u8]) -> u8
     ensures { result ≡ read_refusal p.now }
 {
@@ -240,6 +244,7 @@ fn notice_in(p: &[u8]) -> Notice
 }
 
 // Reads a notice from any bytes.
+#[tactic(auto, unfolding(crate::specs::Reader::read_of))]
 pub fn read_notice(p: &[u8]) -> Reading
     ensures { reading_reply result ≡ read_of p.now }
 {
