@@ -121,6 +121,7 @@ mod release;
 mod steps;
 
 // Starts a slave. 15 outside the limits, and the cold slave.
+#[tactic(auto, unfolding(crate::specs::Calls::start_of))]
 pub fn start(b: Board) -> Shifted
     ensures { shifted_of result ≡ start_of b }
 {
@@ -138,6 +139,7 @@ pub fn start(b: Board) -> Shifted
 
 // A packet that arrived right, on a sound slave. Packets and numbers notices have a function each, of one caller, so that the compiler keeps the
 // steps of either out of memory.
+#[tactic(auto, unfolding(crate::specs::Step::step_of, judging::specs::Judge::judge_arrived))]
 fn arrived(s: Slave, p: &[u8], tick: u32) -> Way
     requires { Ready s tick }
     ensures { way_of s result ≡ step_of s (judge_arrived s.board s.settings p.now) tick }
@@ -165,6 +167,7 @@ fn arrived(s: Slave, p: &[u8], tick: u32) -> Way
 }
 
 // A numbers notice whose packet arrived right, on a sound slave.
+#[tactic(auto, unfolding(crate::specs::Step::step_of, judging::specs::Judge::judge_given))]
 fn given(s: Slave, p: &[u8], tick: u32, x: Numbers) -> Way
     requires { Ready s tick }
     ensures { way_of s result ≡ step_of s (judge_given s.board s.settings p.now x) tick }
@@ -186,6 +189,7 @@ fn given(s: Slave, p: &[u8], tick: u32, x: Numbers) -> Way
 }
 
 // What a packet with its arrival tick does. Each thing is judged once, in document 01's order: 15, then 1 to 3, then 4 and 6 to 13.
+#[tactic(auto, unfolding(crate::specs::Calls::packet_of))]
 pub fn way_of(s: Slave, p: &[u8], tick: u32) -> Way
     ensures { way_of s result ≡ packet_of s p.now tick }
 {
@@ -204,6 +208,7 @@ pub fn way_of(s: Slave, p: &[u8], tick: u32) -> Way
 }
 
 // What a numbers notice with its packet and arrival tick does: 15, then 1 to 3, 20, 4 and 11 to 13.
+#[tactic(auto, unfolding(crate::specs::Calls::numbers_of))]
 pub fn numbers_way(s: Slave, p: &[u8], tick: u32, x: Numbers) -> Way
     ensures { way_of s result ≡ numbers_of s p.now tick x }
 {
@@ -225,6 +230,7 @@ pub fn numbers_way(s: Slave, p: &[u8], tick: u32, x: Numbers) -> Way
 }
 
 // k packets are known to be missing.
+#[tactic(auto, unfolding(crate::specs::Calls::gap_of))]
 pub fn gap(s: Slave, k: u16) -> Shifted
     ensures { shifted_of result ≡ gap_of s k }
 {

@@ -9,6 +9,7 @@ use crate::{MarkPart, PlainTimes};
 use times::{A110Times, DvbTimes, Periods, Steps};
 
 // A sum that exceeds u loses u.
+#[tactic(auto, unfolding(times::specs::Release::wrap))]
 fn wrapped(u: u32, x: u32) -> u32
     ensures { result ≡ wrap u x }
 {
@@ -28,6 +29,7 @@ fn reference_time(u: u32, sts: u32, md: u32) -> u32
 }
 
 // The emission time.
+#[tactic(auto, unfolding(times::specs::Release::delay_fits))]
 fn emission_time(u: u32, sts: u32, md: u32, od: i16) -> u32
     requires { (sts + u < 2 ^ 32) × (delay_fits u md od ≡ true) }
     ensures { result ≡ emission u sts md od }
@@ -37,6 +39,7 @@ fn emission_time(u: u32, sts: u32, md: u32, od: i16) -> u32
 }
 
 // The modulation time of an emission time.
+#[tactic(auto, unfolding(times::specs::Release::modulation))]
 fn modulation_time(u: u32, emission: u32, tad: u32) -> u32
     requires { (emission + u < 2 ^ 32) × (tad < u) }
     ensures { result ≡ modulation u emission tad }
@@ -48,6 +51,7 @@ fn modulation_time(u: u32, emission: u32, tad: u32) -> u32
 }
 
 // How long the mark was under way.
+#[tactic(auto, unfolding(times::specs::Release::link_delay))]
 fn link_delay(u: u32, arrival: u32, sts: u32) -> u32
     requires { (arrival + u < 2 ^ 32) × (arrival < u) × (sts < u) }
     ensures { result ≡ link_delay u arrival sts }
@@ -81,6 +85,7 @@ fn times_in(u: u32, sts: u32, md: u32, od: i16, tad: u32, arrival: u32) -> Plain
 }
 
 // U of a profile.
+#[tactic(auto, unfolding(state::specs::Profile::second))]
 fn second_of(profile: u8) -> u32
     ensures { result ≡ second profile }
 {
@@ -91,6 +96,7 @@ fn second_of(profile: u8) -> u32
 }
 
 // The release of a notice that waits, in the unit of its profile. The parts come one by one: the compiler then keeps them out of memory.
+#[tactic(auto, unfolding(state::specs::Profile::second, times::specs::Release::due_of))]
 pub(crate) fn release_at(profile: u8, tad: u32, od: i16, sts: u32, md: u32, tick: u32) -> MarkPart
     requires { Kept (second profile) sts md od tad tick × (profile < 2) }
     ensures { mark_of result ≡ due profile (due_of (second profile) sts md od tad tick) }

@@ -98,6 +98,7 @@ pub(crate) fn on_mark(c: Count) -> bool
 }
 
 // The mark on a packet whose label the slave counted.
+#[tactic(auto, unfolding(crate::specs::Step::mark_at))]
 pub(crate) fn mark_at(s: Slave, tick: u32) -> MarkPart
     requires { Ready s tick }
     ensures { mark_of result ≡ mark_at s tick }
@@ -149,6 +150,7 @@ pub(crate) fn unheard(k: u8) -> Counted
 }
 
 // A locked slave's packet without a notice, between the marks: the label moves on.
+#[tactic(auto, unfolding(state::specs::Sound::sound, crate::specs::Step::counted))]
 pub(crate) fn pass_on(s: Slave) -> Short
     requires { (sound s ≡ true) × (s.count.phase ≡ 2) × (s.count.next ≡ 0 → ⊥) }
     ensures { (tick : ℕ) → short_of s result ≡ counted s 0 tick }
@@ -163,6 +165,7 @@ pub(crate) fn pass_on(s: Slave) -> Short
 }
 
 // A mark without a notice of its own: a waiting notice is released, and gone.
+#[tactic(auto, unfolding(state::specs::Sound::sound, crate::specs::Step::mark_at, crate::specs::Step::counted))]
 pub(crate) fn pass_mark(s: Slave, own: MarkPart) -> Marked
     requires { (sound s ≡ true) × (s.count.phase ≡ 2) × (s.count.next ≡ 0) }
     ensures { (tick : ℕ) → mark_of own ≡ mark_at s tick → marked_of s result ≡ counted s 0 tick }
@@ -190,6 +193,7 @@ fn kept_at(s: Slave) -> Waiting
 }
 
 // A packet whose notice a number of C ignores: it counts.
+#[tactic(auto, unfolding(state::specs::Sound::sound, crate::specs::Step::mark_at, crate::specs::Step::counted))]
 pub(crate) fn ignore(s: Slave, k: u8, own: MarkPart) -> Moved
     requires { sound s ≡ true }
     ensures { (tick : ℕ) → mark_of own ≡ mark_at s tick → moved_of s result ≡ counted s k tick }
@@ -284,6 +288,7 @@ fn turned(before: u8, index: u8) -> bool
 }
 
 // Taken, or a slip where a locked slave counted otherwise.
+#[tactic(auto, unfolding(crate::specs::Step::notice_taken))]
 fn notice_taken(c: Count, label: u16) -> NoticePart
     ensures { notice_of result ≡ notice_taken c label }
 {
@@ -296,6 +301,7 @@ fn notice_taken(c: Count, label: u16) -> NoticePart
 }
 
 // A notice is taken: its label decides, then the notice and its settings enter.
+#[tactic(auto, unfolding(crate::specs::Step::mark_at, crate::specs::Step::took))]
 pub(crate) fn take(s: Slave, t: Taken, own: MarkPart) -> Moved
     requires { t.pointer < s.board.n }
     ensures { (tick : ℕ) → mark_of own ≡ mark_at s tick → moved_of s result ≡ took s t tick }
