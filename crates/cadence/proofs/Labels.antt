@@ -1,6 +1,6 @@
 -- Laws of the label, for general n: a pointer and its label give each other back, and the packet pointer + 1 places on is the mark.
 use mathlib.Core.Path.{◌≡◌, sym, ap, ◌∙◌}
-use Prim.Native.Nat.{ℕ, ◌+◌, ◌-◌, ◌%◌, ◌<◌}
+use Prim.Native.Nat.{ℕ, ◌+◌, ◌-◌, ◌<◌}
 use native.Mathlib.Nat.{mod-lt, mod_self, mod-eq_of_lt, mod-add-mod}
 use native.Mathlib.Omega.{arith}
 use Rattle.cadence.specs.Label.{label_of, pointer_of, label_at, next_label}

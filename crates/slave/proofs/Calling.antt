@@ -1,6 +1,6 @@
 -- A sound slave's calls are its judged steps; any other's leave the cold slave.
-use mathlib.Core.Path.{◌≡◌, refl, ap, ◌∙◌}
-use mathlib.Core.Bool.{Bool, true, false}
+use mathlib.Core.Path.{◌≡◌}
+use mathlib.Core.Bool.{true, false}
 use mathlib.Core.List.{List}
 use Prim.Native.Nat.{ℕ}
 use borrow.Author.Tests.{eq-eqb, ne_eqb}
@@ -9,11 +9,11 @@ use Rattle.state.specs.Profile.{settings_kept}
 use Rattle.state.specs.Slave.{cold}
 use Rattle.state.specs.Sound.{parts_fit, sound}
 use Rattle.state.specs.declared.Slave.{Slave}
-use Rattle.judging.specs.Judge.{arrival_refusal, judge_arrived, judge_given, judge_packet, judge_numbers}
-use Rattle.judging.specs.Judgement.{Judgement, Refuse}
+use Rattle.judging.specs.Judge.{arrival_refusal, judge_arrived, judge_given}
+use Rattle.judging.specs.Judgement.{Judgement}
 use Rattle.judging.specs.declared.Numbers.{Numbers}
 use Rattle.judging.proofs.Judging.{refuses}
-use Rattle.slave.specs.Answer.{Report, Result, left}
+use Rattle.slave.specs.Answer.{Result, left}
 use Rattle.slave.specs.Step.{step_of}
 use Rattle.slave.specs.Calls.{packet_of, numbers_of}
 

@@ -1,5 +1,5 @@
 -- The release of a waiting notice: the limits hold, and the sign of the wait decides.
-use mathlib.Core.Path.{◌≡◌, refl, sym, ap, ◌∙◌, subst}
+use mathlib.Core.Path.{◌≡◌, sym, ap, ◌∙◌, subst}
 use mathlib.Core.Bool.{true, false}
 use Prim.Native.Nat.{ℕ, ◌+◌, ◌^◌, ◌<◌}
 use native.Mathlib.Omega.{arith}
@@ -8,7 +8,7 @@ use Rattle.times.specs.Release.{negative, Times, late, released, wait_of, times_
 use Rattle.times.proofs.Answers.{due_late, due_released}
 use Rattle.state.specs.Profile.{second}
 use Rattle.state.proofs.Profiles.{second_small}
-use Rattle.slave.specs.Answer.{Mark, due}
+use Rattle.slave.specs.Answer.{due}
 
 module _ (profile sts md : ℕ) (od : ℤ) (tad tick : ℕ) where
   -- the second as the code has it, and OD read back from its bits

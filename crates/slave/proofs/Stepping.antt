@@ -1,10 +1,9 @@
 -- What each way through a step leaves and replies, over plain parts.
-use mathlib.Core.Path.{◌≡◌, refl, sym, ap, ◌∙◌}
-use mathlib.Core.Bool.{Bool, true, false, cond, ◌&&◌}
+use mathlib.Core.Path.{◌≡◌, refl, ap}
+use mathlib.Core.Bool.{Bool, true, false, cond}
 use mathlib.Core.Option.{Option, some}
 use Prim.Native.Nat.{ℕ, zero, suc}
 use lib.Dec.{eqb}
-use lib.IntN.{ℤ}
 use borrow.Author.Tests.{eqb-true, eq-eqb, ne_eqb}
 use Rattle.wire.specs.Reply.{given}
 use Rattle.wire.proofs.Tests.{both}
@@ -15,8 +14,8 @@ use Rattle.state.specs.declared.Count.{Count}
 use Rattle.state.specs.declared.Waiting.{Waiting}
 use Rattle.state.specs.declared.Slave.{Slave}
 use Rattle.judging.specs.declared.Taken.{Taken}
-use Rattle.slave.specs.Answer.{Notice, ignored, Mark, unmarked, untimed, Report, Result, left}
-use Rattle.slave.specs.Step.{place_of, labelled, past, locked_at, moved_to, release_at, on_mark, mark_at, count_at, kept_at, counted_report, unheard_report, passed, unheard, notice_by, counted, agrees, mark_taken, index_before, index_after, turns, notice_taken, entered, took}
+use Rattle.slave.specs.Answer.{Notice, ignored, Mark, unmarked, untimed, Report, left}
+use Rattle.slave.specs.Step.{place_of, labelled, past, locked_at, moved_to, release_at, on_mark, mark_at, count_at, kept_at, counted_report, unheard_report, passed, unheard, notice_by, counted, agrees, mark_taken, index_before, index_after, turns, notice_taken, took}
 
 -- a number of C ignores the notice
 pub notice_ignored : (k : ℕ) → (k ≡ 0 → ⊥) → ignored k ≡ notice_by k

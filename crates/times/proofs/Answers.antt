@@ -1,10 +1,10 @@
 -- The cases of a mark that is due: late, or released with its times.
-use mathlib.Core.Path.{◌≡◌, refl, sym, ap, ◌∙◌}
+use mathlib.Core.Path.{◌≡◌, refl, ap}
 use mathlib.Core.Bool.{Bool, true, false, cond}
 use Prim.Native.Nat.{ℕ}
 use native.Mathlib.Omega.{arith}
 use lib.IntN.{ℤ}
-use Rattle.times.specs.Release.{negative, Times, Due, late, released, wait_of, times_of, due_of}
+use Rattle.times.specs.Release.{negative, Times, late, released, wait_of, times_of, due_of}
 
 pub same_times :
     {r r' e e' m m' : ℕ} {w w' : ℤ} → r ≡ r' → e ≡ e' → m ≡ m' → w ≡ w'

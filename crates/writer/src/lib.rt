@@ -17,6 +17,7 @@ pub enum WriteOutcome {
 }
 
 // The number that a write into this much room is refused with, or 0 for none.
+#[tactic(auto, unfolding(crate::specs::Writer::write_refusal))]
 fn write_refusal(room: usize, n: Notice, field: &[u8]) -> u8
     ensures { result ≡ write_refusal room n field.now }
 {
@@ -58,6 +59,7 @@ fn flags_of(n: Notice) -> u16
 }
 
 // Bytes 0 to 20.
+#[tactic(auto, unfolding(crate::specs::Writer::head_of))]
 fn head_of(n: Notice, a: u8) -> [u8; 21]
     requires { (n.continuity ≤ 15) × (n.reserved ≤ 32767) × (a ≤ longest_addressing) }
     ensures { result ≡ head_of n a }
@@ -114,6 +116,7 @@ fn put_stuffing(out: &mut [u8], from: usize)
 }
 
 // Writes a notice into the first 188 bytes of a lent buffer; a refusal leaves it as it was.
+#[tactic(auto, unfolding(crate::specs::Writer::write_of))]
 pub fn write_notice(out: &mut [u8], n: Notice, field: &[u8]) -> WriteOutcome
     ensures { output_of result out.new ≡ write_of out.old n field.now }
 {

@@ -1,6 +1,5 @@
 -- A hunting slave stays as it is, and the pointer of a notice that is taken is within the cadence.
-use Rattle.std.proofs.Common.{◌≡◌, ◌∙◌, sym, ap, refl}
-use Rattle.judging.specs.Judge.{judge_arrived}
+use Rattle.std.proofs.Common.{◌∙◌, sym, ap, refl}
 use Rattle.judging.specs.Judgement.{Judgement, judgement_of}
 use Rattle.judging.proofs.Judging.{arrived_limits}
 use Rattle.slave.specs.Step.{step_of}

@@ -1,8 +1,6 @@
 -- Each of 15, 1 to 3 and 20 is judged once, in order; a notice past them finds a sound slave and a tick of its second.
 use Rattle.std.proofs.Common.{◌≡◌, ◌∙◌, sym, refl, true}
 use Rattle.state.specs.Profile.{settings_kept}
-use Rattle.state.specs.Sound.{parts_fit, sound}
-use Rattle.judging.specs.Judge.{arrival_refusal}
 use Rattle.judging.proofs.Judging.{arrived_tick}
 use Rattle.slave.proofs.Calling.{unsound_settings, unsound_parts, sound_parts, numbers_cold, numbers_refused, numbers_20, numbers_steps}
 use Rattle.slave.proofs.numbers_way.Goals as goal

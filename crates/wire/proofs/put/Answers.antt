@@ -1,5 +1,5 @@
 -- Where the bytes do not fit the buffer stays; else the loop's next byte goes behind those that stand there, and the last one ends the piece.
-use Rattle.std.proofs.Common.{◌≡◌, ◌∙◌, sym, ap, arith, rules, ◌+◌, ◌≤◌, ◌<◌, ◌++◌, ℕ, List, length, take, drop, get_or, append_assoc}
+use Rattle.std.proofs.Common.{◌≡◌, ◌∙◌, sym, ap, arith, ◌+◌, ◌≤◌, ◌<◌, ◌++◌, ℕ, List, length, take, drop, get_or, append_assoc}
 use Rattle.std.proofs.Math.ListN.{length-set, set}
 use Rattle.std.proofs.Math.Seq.{paste}
 use Rattle.std.proofs.lemmas.List.Edits.{paste_more, paste_all}

@@ -1,5 +1,5 @@
 -- The cadence of a sound slave has packets, and its count is within it.
-use Rattle.std.proofs.Common.{arith, ◌+◌, ◌<◌}
+use Rattle.std.proofs.Common.{arith, ◌+◌}
 use native.Mathlib.Nat.{mod-lt}
 use Rattle.state.proofs.Sound.{some_packets, settings_kept_lem, fitting}
 use Rattle.slave.proofs.gaps.gapped.Goals as goal

@@ -1,5 +1,5 @@
 -- A pending notice of a sound slave keeps the limits of a release.
-use Rattle.std.proofs.Common.{◌≡◌, ◌∙◌, ap, sym, rules, true, ℤ, to_z, of_z}
+use Rattle.std.proofs.Common.{◌≡◌, ◌∙◌, ap, rules, true, ℤ, to_z, of_z}
 use mir.Syntax.{w16}
 use Rattle.times.specs.Release.{due_of}
 use Rattle.state.specs.Profile.{second}
