@@ -12,10 +12,6 @@ use Rattle.wire.proofs.Tests.{both}
 use Rattle.saved.specs.Layout.{body_length}
 use Rattle.saved.specs.Block.{trailer_length, block_length, distance, shaped, from_body}
 
--- the part of a list from k on, as the code takes it
-pub rest : (k : ℕ) (b : List ℕ) → take (length b - k) (drop k b) ≡ drop k b
-rest k b = take_all (length b - k) (drop k b) (omega (arith, length-drop k b))
-
 -- a test that cannot hold fails
 pub fails : (b : Bool) → (b ≡ true → ⊥) → b ≡ false
 fails true h = absurd (h refl)

@@ -100,6 +100,7 @@ fn distance_of(b: &[u8]) -> u16
 }
 
 // The distance is long enough for a body and leads to a byte of the block.
+#[tactic(auto, unfolding(crate::specs::Block::shaped))]
 fn is_shaped(b: &[u8]) -> bool
     ensures { result ≡ shaped b.now }
 {
@@ -111,6 +112,7 @@ fn is_shaped(b: &[u8]) -> bool
 }
 
 // Body through check value.
+#[tactic(auto, unfolding(crate::specs::Block::from_body))]
 fn from_body(b: &[u8]) -> &[u8]
     ensures { result.now ≡ from_body b.now }
 {
@@ -119,6 +121,7 @@ fn from_body(b: &[u8]) -> &[u8]
 }
 
 // The parts of the slave whose body these bytes begin with.
+#[tactic(auto, unfolding(crate::specs::Layout::slave_in))]
 fn board_in(b: &[u8]) -> Board
     ensures { result ≡ (slave_in b.now).board }
 {
@@ -130,6 +133,7 @@ fn board_in(b: &[u8]) -> Board
     }
 }
 
+#[tactic(auto, unfolding(crate::specs::Layout::slave_in))]
 fn settings_in(b: &[u8]) -> Settings
     ensures { result ≡ (slave_in b.now).settings }
 {
@@ -140,6 +144,7 @@ fn settings_in(b: &[u8]) -> Settings
     }
 }
 
+#[tactic(auto, unfolding(crate::specs::Layout::slave_in))]
 fn count_in(b: &[u8]) -> Count
     ensures { result ≡ (slave_in b.now).count }
 {
@@ -150,6 +155,7 @@ fn count_in(b: &[u8]) -> Count
     }
 }
 
+#[tactic(auto, unfolding(crate::specs::Layout::slave_in))]
 fn waiting_in(b: &[u8]) -> Waiting
     ensures { result ≡ (slave_in b.now).waiting }
 {
@@ -160,6 +166,7 @@ fn waiting_in(b: &[u8]) -> Waiting
     }
 }
 
+#[tactic(auto, unfolding(crate::specs::Layout::slave_in))]
 fn slave_in(b: &[u8]) -> Slave
     ensures { result ≡ slave_in b.now }
 {
@@ -172,6 +179,7 @@ fn slave_in(b: &[u8]) -> Slave
 }
 
 // No 16: the shape, the check value, the trailer's site, and parts that a sound slave has.
+#[tactic(auto, unfolding(crate::specs::Block::from_body, crate::specs::Block::block_fits))]
 fn block_fits(b: &[u8], body: &[u8], s: Slave) -> bool
     requires { (body.now ≡ from_body b.now) × (s ≡ held b.now) }
     ensures { result ≡ block_fits b.now }
@@ -192,6 +200,7 @@ fn block_fits(b: &[u8], body: &[u8], s: Slave) -> bool
 }
 
 // No 17.
+#[tactic(auto, unfolding(crate::specs::Block::same_board))]
 fn same_board(a: Board, b: Board) -> bool
     ensures { result ≡ same_board a b }
 {
@@ -233,7 +242,7 @@ pub fn resume(block: &[u8], b: Board) -> Shifted
         return fresh(b, 16);
     }
     let s = slave_in(body);
-    if !block_fits(block, body, s) {
+    if !(!block_fits(block, body, s)) {
         return fresh(b, 16);
     }
     let board = s.board;

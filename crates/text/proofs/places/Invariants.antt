@@ -1,0 +1,10 @@
+-- The digits counted and those of `rest` are all, but one is counted twice.
+use Rattle.std.proofs.Common.{◌≡◌, ◌+◌, length}
+use Rattle.text.specs.Decimal.{decimal}
+use Rattle.text.proofs.places.Given as goal
+
+abbrev pub invariant-loop-rest : goal.invariant-loop-rest
+invariant-loop-rest l = l.k + length (decimal l.rest) ≡ length (decimal l.n) + 1
+
+abbrev pub decreases-loop-rest : goal.decreases-loop-rest
+decreases-loop-rest l = l.rest
