@@ -11,17 +11,19 @@ use lib.Seq.{take_all, get_or-drop, drop-drop}
 use Rattle.wire.specs.Reply.{given}
 use Rattle.wire.specs.BigEndian.{be16, be16_at, bytes16}
 use Rattle.wire.proofs.Numbers.{of16}
-use Rattle.wire.proofs.Tests.{passed, given_zero, kept_new}
+use Rattle.wire.proofs.Tests.{passed, given_zero}
 use Rattle.wire.proofs.Bytes.{Bytes, drop_bytes, elements, elements_are}
 use Rattle.check_value.specs.Register.{register, sealed}
 use Rattle.check_value.proofs.Laws.{zero_only}
 use Rattle.state.specs.Profile.{settings_kept}
 use Rattle.state.specs.declared.Board.{Board}
+use Rattle.slave.specs.Answer.{Result}
 use Rattle.saved.specs.Layout.{body_length, body_of, slave_in}
-use Rattle.saved.specs.Block.{trailer_length, block_length, covered_of, block_of, trailer, distance, from_body, held, block_fits, resume_refusal, resume_of}
+use Rattle.saved.specs.Block.{trailer_length, block_length, covered_of, block_of, trailer, distance, from_body, held, block_fits, same_board, resume_refusal, resume_of}
 use Rattle.saved.proofs.Body.{body_again}
 use Rattle.saved.proofs.Shape.{shape_room, body_length_lem}
 use Rattle.saved.proofs.Fitting.{fitting}
+use Rattle.saved.proofs.Answers.{resume_held}
 
 pair_again : (a b : ℕ) → a < 256 → b < 256 → bytes16 (be16 a b) ≡ a ∷ b ∷ []
 pair_again a b ha hb = let p = of16 a b ha hb in λ i. p.0 i ∷ p.1 i ∷ []
@@ -89,8 +91,10 @@ module _ (block : List ℕ) (b : Board) (e : (resume_of block b).reply ≡ given
   accepted : (block_fits block ≡ true) × ((resume_of block b).slave ≡ held block)
   unfolding resume_of resume_refusal
   accepted =
-      let none = (given_zero (resume_refusal block b) tt tt e).0 in
-      ((passed (block_fits block) _ _ (passed (settings_kept b) _ _ none).1).0, kept_new _ _ (held block) none)
+      let kept = passed (settings_kept b) _ _ (given_zero (resume_refusal block b) tt tt e).0 in
+      let fits = passed (block_fits block) _ _ kept.1 in
+      let same = passed (same_board (held block).board b) _ _ fits.1 in
+      (fits.0, ap (λ (r : Result (Unit {0})). r.slave) (resume_held block b kept.0 fits.0 same.0))
 
   module _ (bytes : Bytes block) where
     pub accepted_body : take body_length (from_body block) ≡ body_of (resume_of block b).slave

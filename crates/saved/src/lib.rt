@@ -242,7 +242,7 @@ pub fn resume(block: &[u8], b: Board) -> Shifted
         return fresh(b, 16);
     }
     let s = slave_in(body);
-    if !(!block_fits(block, body, s)) {
+    if !block_fits(block, body, s) {
         return fresh(b, 16);
     }
     let board = s.board;
