@@ -1,5 +1,5 @@
 -- The digits of a number, put from the last one back.
-use mathlib.Core.Path.{◌≡◌, refl, sym, ap, ap₂, ◌∙◌}
+use mathlib.Core.Path.{◌≡◌, refl, sym, ap, ◌∙◌}
 use mathlib.Core.List.{List, [], ◌∷◌, ◌++◌, append_assoc, append-nil}
 use Prim.Native.Nat.{ℕ, suc, ◌+◌, ◌-◌, ◌/◌, ◌%◌, ◌≤◌, ◌<◌}
 use native.Mathlib.Omega.{arith}
@@ -7,7 +7,7 @@ use lib.ListN.{length, take, drop, set, get_or, take-append-drop}
 use lib.Seq.{length-take-le, take-suc, append_snoc, set_at}
 use Rattle.text.specs.Decimal.{digit, decimal, most_digits}
 use Rattle.text.specs.Puts.{Puts}
-use Rattle.text.proofs.Decimals.{decimal_one, decimal_more, length_one, length_more, not_empty}
+use Rattle.text.proofs.Decimals.{decimal_one, decimal_more, length_one, length_more}
 
 -- the digits of `rest` are still to be put, before byte i; those behind them stand there
 pub record Filling (d : List ℕ) (at n : ℕ) (d' : List ℕ) (i rest : ℕ) : Type 0 where

@@ -1,5 +1,5 @@
 -- The next digit goes right before those that stand there, and the last `rest` is the first digit.
-use Rattle.std.proofs.Common.{◌≤◌, ℕ, arith, length, subst, sym}
+use Rattle.std.proofs.Common.{◌≤◌, arith, length, subst, sym}
 use Rattle.std.proofs.Math.ListN.{length-set}
 use Rattle.text.specs.Decimal.{decimal, most_digits}
 use Rattle.text.specs.Puts.{Puts}
