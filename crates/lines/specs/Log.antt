@@ -1,5 +1,5 @@
 -- The log of a capture: the settings, the records one after another, and what is left at the end.
-use Rattle.std.specs.Prelude.{ℕ, zero, suc, ◌+◌, ◌-◌, ◌/◌, cond, List, [], ◌∷◌, ◌++◌, eqb, leb, length, take, drop, get_or}
+use Rattle.std.specs.Prelude.{ℕ, zero, suc, ◌+◌, ◌-◌, ◌/◌, cond, List, [], ◌++◌, eqb, leb, length, take, drop, get_or}
 use Rattle.wire.specs.Reply.{Reply, refused, given}
 use Rattle.wire.specs.Standards.{packet_length}
 use Rattle.wire.specs.BigEndian.{be16_at, be32_at}

@@ -60,6 +60,7 @@ fn board_in(head: &[u8]) -> Board
 }
 
 // The start that the settings ask for. 15 where they are short.
+#[tactic(auto, using(crate::proofs::Capture::begun_short, crate::proofs::Capture::begun_long))]
 fn begun_by(head: &[u8]) -> Shifted
     ensures { shifted_of result ≡ begun_by head.now }
 {
