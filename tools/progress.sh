@@ -28,11 +28,11 @@ proving() {
 # library CRATE: target/staticlib/libCRATE.a, proved.
 library() {
     mkdir -p target/staticlib
-    proving lib "$1" && cp "crates/$1/out/lib$1.a" target/staticlib/
+    proving lib "$1" && cp "crates/$1/out/lib$1.a" target/staticlib/ && echo "target/staticlib/lib$1.a is built"
 }
 
 # program: the log program as target/bin/log, proved.
 program() {
     mkdir -p target/bin
-    proving run capture_log && cp crates/capture_log/out/capture_log target/bin/log
+    proving run capture_log && cp crates/capture_log/out/capture_log target/bin/log && echo "target/bin/log is built"
 }
