@@ -1,6 +1,6 @@
 -- What some nibbles leave of a register of zeros is the sum of what each of them leaves, and what a nibble leaves the sum of what its bits leave.
 use mathlib.Core.Path.{◌≡◌, sym, ap, ap₂, ◌∙◌}
-use Prim.Native.Nat.{ℕ, zero, suc, ◌+◌, ◌*◌, ◌/◌, ◌%◌, ◌^◌}
+use Prim.Native.Nat.{ℕ, zero, suc, ◌+◌, ◌*◌, ◌/◌, ◌%◌, ◌^◌, ◌≤◌}
 use native.Mathlib.Nat.{mod-mod, zero-mul}
 use native.Mathlib.Omega.{arith}
 use lib.Bits.{bit_xor, xor_comm}
@@ -45,3 +45,16 @@ sum m v w e f =
 -- what the nibble k leaves, v leaves where it is k
 pub at : (m : ℕ) {v k r : ℕ} → v ≡ k → r ≡ left_of k m → r ≡ left_of v m
 at m e h = h ∙ ap (λ (x : ℕ). left_of x m) (sym e)
+
+-- what is known of x in the last arm of a match on 0, 1, .. k - 1
+unfoldable pub NoneOf : ℕ → ℕ → Type 0
+NoneOf zero x = Unit
+NoneOf (suc k) x = NoneOf k x × (x ≡ k → ⊥)
+
+at_least : (k x : ℕ) → NoneOf k x → k ≤ x
+unfolding NoneOf
+at_least zero x h = omega arith
+at_least (suc k) x h = omega (arith, at_least k x h.0, h.1)
+
+pub last : (k x : ℕ) → x ≤ k → NoneOf k x → x ≡ k
+last k x l h = omega (arith, at_least k x h)

@@ -99,6 +99,13 @@ module _ (d : List ℕ) where
       ∙ put_packed fs (k + w) (p ++ x) (length-append p x ∙ ap₂ ◌+◌ e (field_length f.0 f.1)) t.1 (omega arith)
       ∙ ap₂ ◌++◌ (append_assoc p x (written fs)) (ap (λ (n : ℕ). drop n d) more)
 
+-- a field put over bytes that are known, with a number that is
+pub after : (f : Field) (v : ℕ) {d d' e : List ℕ} → e ≡ put_in d f v → d ≡ d' → e ≡ put_in d' f v
+after f v p q = p ∙ ap (λ (l : List ℕ). put_in l f v) q
+
+pub with_number : (d : List ℕ) (f : Field) {v w : ℕ} → v ≡ w → put_in d f v ≡ put_in d f w
+with_number d f q = ap (put_in d f) q
+
 -- a put keeps the length
 put_length : (d : List ℕ) (at : ℕ) (x : List ℕ) → length (put_at d at x) ≡ length d
 unfolding put_at

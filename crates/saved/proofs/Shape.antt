@@ -4,12 +4,17 @@ use mathlib.Core.Bool.{Bool, true, false}
 use mathlib.Core.List.{List}
 use Prim.Native.Nat.{ℕ, ◌+◌, ◌-◌, ◌≤◌, ◌<◌}
 use native.Mathlib.Omega.{arith}
-use lib.ListN.{length, length-drop}
+use lib.ListN.{length, take, drop, length-drop}
+use lib.Seq.{take_all}
 use lib.Dec.{leb}
 use borrow.Author.Tests.{leb-true}
 use Rattle.wire.proofs.Tests.{both}
 use Rattle.saved.specs.Layout.{body_length}
 use Rattle.saved.specs.Block.{trailer_length, block_length, distance, shaped, from_body}
+
+-- the part of a list from k on, as the code takes it
+pub rest : (k : ℕ) (b : List ℕ) → take (length b - k) (drop k b) ≡ drop k b
+rest k b = take_all (length b - k) (drop k b) (omega (arith, length-drop k b))
 
 -- a test that cannot hold fails
 pub fails : (b : Bool) → (b ≡ true → ⊥) → b ≡ false

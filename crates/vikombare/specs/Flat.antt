@@ -5,10 +5,7 @@ use Rattle.times.specs.declared.Steps.{Steps}
 use Rattle.times.specs.declared.Periods.{Periods}
 use Rattle.notice.specs.declared.Notice as Mip
 use Rattle.state.specs.declared.Board.{Board}
-use Rattle.state.specs.declared.Slave.{Slave}
-use Rattle.slave.specs.Answer.{Report, Result}
-use Rattle.replies.specs.Flat.{flat_reply}
-use Rattle.replies.specs.declared.PacketReply.{PacketReply}
+use Rattle.slave.specs.Answer.{Result}
 use Rattle.vikombare.specs.declared.Tick.{Tick}
 use Rattle.vikombare.specs.declared.Change.{Change}
 use Rattle.vikombare.specs.declared.NoticeRead.{NoticeRead}

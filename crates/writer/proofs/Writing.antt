@@ -1,6 +1,6 @@
 -- The writer's pieces, put one behind the other, are the packet.
 use mathlib.Core.Path.{◌≡◌, refl, sym, ap, ap₂, ◌∙◌}
-use mathlib.Core.Bool.{true}
+use mathlib.Core.Bool.{true, false}
 use mathlib.Core.List.{List, ◌∷◌, ◌++◌}
 use Prim.Native.Nat.{ℕ, zero, suc, ◌+◌, ◌-◌, ◌≤◌}
 use native.Mathlib.Omega.{arith}
@@ -10,8 +10,8 @@ use lib.Dec.{leb}
 use borrow.Author.Tests.{leb-true, le-leb}
 use Rattle.wire.specs.BigEndian.{bytes32}
 use Rattle.wire.specs.Standards.{dvb_second}
-use Rattle.wire.specs.Put.{put_at}
-use Rattle.wire.proofs.Puts.{put_behind, put_fits}
+use Rattle.wire.specs.Reply.{must}
+use Rattle.wire.proofs.Puts.{put_behind}
 use Rattle.wire.proofs.Tests.{passed}
 use Rattle.check_value.specs.Register.{register, sealed}
 use Rattle.check_value.proofs.Sealing.{sealed_length}
@@ -48,15 +48,15 @@ take_stuffing zero m h = refl
 take_stuffing (suc k) zero h = absurd (omega arith)
 take_stuffing (suc k) (suc m) h = ap (λ (l : List ℕ). 255 ∷ l) (take_stuffing k m (omega arith))
 
-pub stuffing_put : (d d' : List ℕ) (from : ℕ) → 25 ≤ from → from ≤ 188 → 188 ≤ length d
-    → d' ≡ put_at d from (take (188 - from) (stuffing 163))
+pub stuffing_length : (from : ℕ) → 25 ≤ from → length (take (188 - from) (stuffing 163)) ≡ 188 - from
+stuffing_length from h = length-take-le (188 - from) (stuffing 163) (omega (arith, length_stuffing 163))
+
+pub stuffing_put : (d d' : List ℕ) (from : ℕ) → 25 ≤ from → from ≤ 188
+    → d' ≡ take from d ++ take (188 - from) (stuffing 163) ++ drop (from + length (take (188 - from) (stuffing 163))) d
     → d' ≡ take from d ++ stuffing (188 - from) ++ drop 188 d
-stuffing_put d d' from h l r p =
-    let piece : List ℕ = take (188 - from) (stuffing 163) in
-    let n : length piece ≡ 188 - from = length-take-le (188 - from) (stuffing 163) (omega (arith, length_stuffing 163)) in
-    let e : from + length piece ≡ 188 = omega (arith, n) in
-    p ∙ put_fits d from piece (omega (arith, e))
-    ∙ ap₂ (λ (x : List ℕ) (k : ℕ). take from d ++ x ++ drop k d) (take_stuffing (188 - from) 163 (omega arith)) e
+stuffing_put d d' from h l p =
+    let e : from + length (take (188 - from) (stuffing 163)) ≡ 188 = omega (arith, stuffing_length from h) in
+    p ∙ ap₂ (λ (x : List ℕ) (k : ℕ). take from d ++ x ++ drop k d) (take_stuffing (188 - from) 163 (omega arith)) e
 
 -- the whole packet
 pub packet_put : (n : Notice) (f d d₁ d₂ d₃ : List ℕ) → length f ≤ 163
@@ -100,9 +100,23 @@ judged space n f e =
 pub write_fits : (space : ℕ) (n : Notice) (f : List ℕ) → write_refusal space n f ≡ 0 → Writable space n f
 write_fits space n f e = (judged space n f e).0
 
--- no number refuses what fits, is well formed and lies within the second
-pub write_none : (space : ℕ) (n : Notice) (f : List ℕ) → Writable space n f → well_formed f ≡ true → in_second dvb_second n.sts.0 ≡ true
-    → in_second dvb_second n.md.0 ≡ true → 0 ≡ write_refusal space n f
-unfolding write_refusal
-write_none space n f w form sts md =
-    rw (le-leb 188 space w.room, le-leb n.continuity 15 w.counter, le-leb n.reserved 32767 w.bits, le-leb (length f) 163 w.short, form, sts, md)
+-- the writer's last numbers, of what fits
+module _ (space : ℕ) (n : Notice) (f : List ℕ) (w : Writable space n f) where
+  fits_so_far : (r : ℕ) → r ≡ must (well_formed f) 10 (must (in_second dvb_second n.sts.0) 11 (must (in_second dvb_second n.md.0) 11 0)) → r ≡ write_refusal space n f
+  unfolding write_refusal
+  fits_so_far r e =
+      rw (le-leb 188 space w.room, le-leb n.continuity 15 w.counter, le-leb n.reserved 32767 w.bits, le-leb (length f) 163 w.short) e
+
+  pub write_10 : well_formed f ≡ false → 10 ≡ write_refusal space n f
+  write_10 e = fits_so_far 10 (rw e)
+
+  module _ (form : well_formed f ≡ true) where
+    pub write_sts : in_second dvb_second n.sts.0 ≡ false → 11 ≡ write_refusal space n f
+    write_sts e = fits_so_far 11 (rw (form, e))
+
+    module _ (sts : in_second dvb_second n.sts.0 ≡ true) where
+      pub write_md : in_second dvb_second n.md.0 ≡ false → 11 ≡ write_refusal space n f
+      write_md e = fits_so_far 11 (rw (form, sts, e))
+
+      pub write_none : in_second dvb_second n.md.0 ≡ true → 0 ≡ write_refusal space n f
+      write_none e = fits_so_far 0 (rw (form, sts, e))
