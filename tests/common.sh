@@ -1,4 +1,4 @@
-# Shared by run and bench, which stand in the repository's root: the proved library, and programs linked with it. All goes below target/.
+# Shared by run and bench, which stand in the repository's root: the proved library, and programs linked with it. All goes below target/, and what rt makes into crates/*/out/.
 . tools/progress.sh
 out=target/tests
 mkdir -p "$out"

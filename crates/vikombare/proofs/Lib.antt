@@ -1,2 +1,3 @@
 -- The laws of crate `vikombare`.
 pub mod Clocks
+pub mod Walk

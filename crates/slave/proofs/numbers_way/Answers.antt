@@ -1,5 +1,5 @@
 -- Each of 15, 1 to 3 and 20 is judged once, in order; a notice past them finds a sound slave and a tick of its second.
-use Rattle.std.proofs.Common.{◌≡◌, ◌∙◌, sym, refl, true}
+use Rattle.std.proofs.Common.{◌≡◌, ◌∙◌, sym, refl, true, arith}
 use Rattle.state.specs.Profile.{settings_kept}
 use Rattle.judging.proofs.Judging.{arrived_tick}
 use Rattle.slave.proofs.Calling.{unsound_settings, unsound_parts, sound_parts, numbers_cold, numbers_refused, numbers_20, numbers_steps}
@@ -26,9 +26,11 @@ returns-then-board-eq0 c =
 pub given-requires : goal.given-requires
 given-requires c =
     let kept : settings_kept c.args.s.board ≡ true = cc in
-    record { is_sound = sound_parts _ kept (cc); is_in_second = arrived_tick _ _ _ (sym c.arrival_refusal-number.ensures ∙ c.if-number-ne0.false) }
+    let none : c.arrival_refusal-number.result ≡ 0 = omega arith in
+    record { is_sound = sound_parts _ kept (cc); is_in_second = arrived_tick _ _ _ (sym c.arrival_refusal-number.ensures ∙ none) }
 
 pub returns : goal.returns
 returns c =
     let kept : settings_kept c.args.s.board ≡ true = cc in
-    c.given.ensures ∙ numbers_steps _ _ _ _ (sound_parts _ kept (cc)) (sym c.arrival_refusal-number.ensures ∙ c.if-number-ne0.false) c.if-board-eq0.false _ refl
+    let none : c.arrival_refusal-number.result ≡ 0 = omega arith in
+    c.given.ensures ∙ numbers_steps _ _ _ _ (sound_parts _ kept (cc)) (sym c.arrival_refusal-number.ensures ∙ none) c.if-board-eq0.false _ refl

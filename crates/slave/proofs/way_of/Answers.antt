@@ -1,5 +1,5 @@
 -- Each of 15 and 1 to 3 is judged once, in order; a packet past them finds a sound slave and a tick of its second.
-use Rattle.std.proofs.Common.{◌≡◌, ◌∙◌, sym, refl, true}
+use Rattle.std.proofs.Common.{◌≡◌, ◌∙◌, sym, refl, true, arith}
 use Rattle.state.specs.Profile.{settings_kept}
 use Rattle.judging.proofs.Judging.{arrived_tick}
 use Rattle.slave.proofs.Calling.{unsound_settings, unsound_parts, sound_parts, packet_cold, packet_refused, packet_steps}
@@ -21,9 +21,11 @@ returns-then-refusal-ne0 c =
 pub arrived-requires : goal.arrived-requires
 arrived-requires c =
     let kept : settings_kept c.args.s.board ≡ true = cc in
-    record { is_sound = sound_parts _ kept (cc); is_in_second = arrived_tick _ _ _ (sym c.arrival_refusal-refusal.ensures ∙ c.if-refusal-ne0.false) }
+    let none : c.arrival_refusal-refusal.result ≡ 0 = omega arith in
+    record { is_sound = sound_parts _ kept (cc); is_in_second = arrived_tick _ _ _ (sym c.arrival_refusal-refusal.ensures ∙ none) }
 
 pub returns : goal.returns
 returns c =
     let kept : settings_kept c.args.s.board ≡ true = cc in
-    c.arrived.ensures ∙ packet_steps _ _ _ (sound_parts _ kept (cc)) (sym c.arrival_refusal-refusal.ensures ∙ c.if-refusal-ne0.false) _ refl
+    let none : c.arrival_refusal-refusal.result ≡ 0 = omega arith in
+    c.arrived.ensures ∙ packet_steps _ _ _ (sound_parts _ kept (cc)) (sym c.arrival_refusal-refusal.ensures ∙ none) _ refl
