@@ -1,5 +1,7 @@
 -- What a call answers: a number of document 01's table "Numbers a call can refuse with", or what the call gives.
-use Rattle.std.specs.Prelude.{ℕ, zero, suc, Bool, true, false, List}
+use Rattle.std.specs.Prelude.{ℕ, zero, suc, Bool, true, false, List, Result, Ok, Err}
+use Rattle.wire.specs.declared.Refusal.{Refusal}
+use Rattle.wire.specs.declared.Refusal.TheVariants as refusal
 
 pub data Reply (A : Type 0) : Type 0 where
   refused : ℕ → Reply A
@@ -38,3 +40,32 @@ pub record Output : Type 0 where
 -- a number refuses and keeps the old bytes, 0 lets the new ones stand
 abbrev pub filled : ℕ → List ℕ → List ℕ → Output
 filled n old new = record { reply = reply n tt; bytes = kept_by n old new }
+
+-- ---- the code's answers in these numbers and values
+
+-- the table's number of each refusal
+abbrev pub refusal_number : Refusal → ℕ
+refusal_number refusal.NotAPacket = 1
+refusal_number refusal.SyncByte = 2
+refusal_number refusal.Tick = 3
+refusal_number refusal.ErrorIndicator = 4
+refusal_number refusal.PacketIdentifier = 5
+refusal_number refusal.HeaderBits = 6
+refusal_number refusal.SynchronizationId = 7
+refusal_number refusal.SectionLength = 8
+refusal_number refusal.CheckValue = 9
+refusal_number refusal.AddressingForm = 10
+refusal_number refusal.Times = 11
+refusal_number refusal.PointerOrIndex = 12
+refusal_number refusal.Delay = 13
+refusal_number refusal.Late = 14
+refusal_number refusal.StartSettings = 15
+refusal_number refusal.SavedBlock = 16
+refusal_number refusal.OtherBoard = 17
+refusal_number refusal.OutputLength = 18
+refusal_number refusal.NoticeField = 19
+refusal_number refusal.OtherProfile = 20
+
+abbrev pub reply_of : {A : Type 0} → Result A Refusal → Reply A
+reply_of (Ok a) = given a
+reply_of (Err r) = refused (refusal_number r)

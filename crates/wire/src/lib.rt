@@ -5,6 +5,7 @@ ghost use Rattle.std.specs.Prelude.{◌≡◌, ◌+◌, ◌≤◌, get_or};
 ghost use Rattle.wire.specs.BigEndian.{be16_at, be24_at, be32_at, byte0, bytes16, bytes32};
 ghost use Rattle.wire.specs.Signed.{signed, signed16, signed24, signed32, bits16, bits32};
 ghost use Rattle.wire.specs.Put.{put_at};
+ghost use Rattle.wire.specs.Reply.{refusal_number};
 
 // Numbers that the standards fix: specs/Standards.antt says where.
 pub const PACKET_LENGTH: usize = 188;
@@ -21,14 +22,45 @@ pub const CHECK_LENGTH: usize = 4;
 
 pub const LONGEST_ADDRESSING: usize = 163;
 
+// Document 01's table "Numbers a call can refuse with", in its order.
+#[derive(Clone, Copy, PartialEq, Eq)]
+pub enum Refusal {
+    NotAPacket = 1,
+    SyncByte = 2,
+    Tick = 3,
+    ErrorIndicator = 4,
+    PacketIdentifier = 5,
+    HeaderBits = 6,
+    SynchronizationId = 7,
+    SectionLength = 8,
+    CheckValue = 9,
+    AddressingForm = 10,
+    Times = 11,
+    PointerOrIndex = 12,
+    Delay = 13,
+    Late = 14,
+    StartSettings = 15,
+    SavedBlock = 16,
+    OtherBoard = 17,
+    OutputLength = 18,
+    NoticeField = 19,
+    OtherProfile = 20,
+}
+
+impl Refusal {
+    // The table's number.
+    pub fn number(self) -> u8
+        ensures { result ≡ refusal_number self }
+    {
+        self as u8
+    }
+}
+
 // Byte i of b. Here and in the numbers below, bytes beyond the end read as 0.
 pub fn byte_at(b: &[u8], i: usize) -> u8
     ensures { result ≡ get_or b.now i 0 }
 {
-    if b.len() <= i {
-        return 0;
-    }
-    b[i]
+    b.get(i).copied().unwrap_or(0)
 }
 
 // The number that two bytes spell, the first of them byte i.
