@@ -4,8 +4,6 @@ use Rattle.wire.specs.Reply.{Reply, refused, given}
 use Rattle.wire.specs.BigEndian.{be16}
 use Rattle.addressing.specs.Functions.{no_settings, formed, functions_of}
 use Rattle.addressing.specs.declared.Settings.{Settings}
-use Rattle.addressing.specs.declared.Walked.{Walked}
-use Rattle.addressing.specs.declared.Walked.TheVariants.{Set, Malformed}
 
 -- an entry is addressed to the site that it names; 0x0000 names every site
 unfoldable pub addressed : ℕ → ℕ → Bool
@@ -38,8 +36,3 @@ is_given (given a) = true
 -- the form alone, which depends neither on the site nor on what was set before
 unfoldable pub well_formed : List ℕ → Bool
 well_formed s = is_given (settings_of s 0 no_settings)
-
--- an answer's number and value
-abbrev pub walked_reply : Walked → Reply Settings
-walked_reply (Set t) = given t
-walked_reply Malformed = refused 10

@@ -3,22 +3,18 @@
 
 ghost use Rattle.std.specs.Prelude.{◌≡◌, cond};
 ghost use Rattle.addressing.specs.Functions.{no_settings, length_fits, set_by, functions_of};
-ghost use Rattle.addressing.specs.Entries.{addressed, settings_of, well_formed, walked_reply};
+ghost use Rattle.addressing.specs.Entries.{addressed, settings_of, well_formed};
+ghost use Rattle.wire.specs.Reply.{reply_of};
+
+use wire::Refusal;
 
 // What a site can be told: time offset in 100 ns steps, frequency offset in Hz, power in 0.1 dBm.
 #[repr(C)]
-#[derive(Clone, Copy)]
+#[derive(Clone, Copy, PartialEq, Eq, Default)]
 pub struct Settings {
     pub od: i16,
     pub power: u16,
     pub frequency: i32,
-}
-
-// The settings after a field, or none of a field of wrong form.
-#[derive(Clone, Copy)]
-pub enum Walked {
-    Set(Settings),
-    Malformed,
 }
 
 // The settings of a site that was told nothing.
@@ -86,58 +82,55 @@ fn set_by(on: bool, tag: u8, body: &[u8], t: Settings) -> Settings
 
 // The settings after the functions of a loop, where they apply.
 #[tactic(auto, unfolding(crate::specs::Functions::functions_of))]
-fn functions(on: bool, s: &[u8], before: Settings) -> Walked
-    ensures { walked_reply result ≡ functions_of on s.now before }
+fn functions(on: bool, s: &[u8], before: Settings) -> Result<Settings, Refusal>
+    ensures { reply_of result ≡ functions_of on s.now before }
 {
     let mut t = before;
     let mut at = 0;
     while at < s.len() {
         let left = s.len() - at;
         if left < 2 {
-            return Walked::Malformed;
+            return Err(Refusal::AddressingForm);
         }
         let tag = s[at];
         let n = wire::byte_at(s, at + 1) as usize;
         if !length_fits(tag, n) {
-            return Walked::Malformed;
+            return Err(Refusal::AddressingForm);
         }
         if left < n {
-            return Walked::Malformed;
+            return Err(Refusal::AddressingForm);
         }
         let start = at + 2;
         let end = at + n;
         t = set_by(on, tag, &s[start..end], t);
         at = end;
     }
-    Walked::Set(t)
+    Ok(t)
 }
 
 // The settings of a site after an addressing field, later entries replacing earlier ones; a setting that no entry gives is kept.
 #[tactic(auto, unfolding(crate::specs::Entries::settings_of))]
-pub fn settings_of(s: &[u8], site: u16, before: Settings) -> Walked
-    ensures { walked_reply result ≡ settings_of s.now site before }
+pub fn settings_of(s: &[u8], site: u16, before: Settings) -> Result<Settings, Refusal>
+    ensures { reply_of result ≡ settings_of s.now site before }
 {
     let mut t = before;
     let mut at = 0;
     while at < s.len() {
         let left = s.len() - at;
         if left < 3 {
-            return Walked::Malformed;
+            return Err(Refusal::AddressingForm);
         }
         let n = wire::byte_at(s, at + 2) as usize;
         if left - 3 < n {
-            return Walked::Malformed;
+            return Err(Refusal::AddressingForm);
         }
         let start = at + 3;
         let end = start + n;
         let on = addressed(site, wire::number16_at(s, at));
-        let Walked::Set(after) = functions(on, &s[start..end], t) else {
-            return Walked::Malformed;
-        };
-        t = after;
+        t = functions(on, &s[start..end], t)?;
         at = end;
     }
-    Walked::Set(t)
+    Ok(t)
 }
 
 // Whether an addressing field has the form of clause 6.
@@ -145,8 +138,5 @@ pub fn settings_of(s: &[u8], site: u16, before: Settings) -> Walked
 pub fn well_formed(s: &[u8]) -> bool
     ensures { result ≡ well_formed s.now }
 {
-    match settings_of(s, 0, no_settings()) {
-        Walked::Set(_) => true,
-        Walked::Malformed => false,
-    }
+    settings_of(s, 0, no_settings()).is_ok()
 }

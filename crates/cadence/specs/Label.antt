@@ -1,8 +1,6 @@
 -- A packet's label, its place 0 to n − 1 in its cadence (document 01, "Cadence", "Steps of a slave" and "Runs"). Label 0 is the mark.
 use Rattle.std.specs.Prelude.{ℕ, ◌+◌, ◌-◌, ◌%◌, ltb}
-use Rattle.wire.specs.Reply.{Reply, refused, given, must, reply}
-use Rattle.cadence.specs.declared.LabelAnswer.{LabelAnswer}
-use Rattle.cadence.specs.declared.LabelAnswer.TheVariants.{Given, Refused}
+use Rattle.wire.specs.Reply.{Reply, must, reply}
 
 -- the label of the packet with this pointer, the number of packets between it and the next mark (TS 101 191 clause 6)
 abbrev pub label_of : ℕ → ℕ → ℕ
@@ -23,8 +21,3 @@ label_at n t = t % n
 -- the label after l: l + 1, and 0 after n − 1
 abbrev pub next_label : ℕ → ℕ → ℕ
 next_label n l = (l + 1) % n
-
--- what an answer of the calls says
-abbrev pub label_reply : LabelAnswer → Reply ℕ
-label_reply (Given x) = given x
-label_reply (Refused number) = refused number

@@ -3,8 +3,11 @@
 
 ghost use Rattle.std.specs.Prelude.{◌≡◌, [], ◌∷◌, eqb};
 ghost use Rattle.cadence.specs.Cadence.{bits_of, numerator_of, denominator_of, length_of, any_of, at_some_rate, is_mega_frame, admits};
-ghost use Rattle.cadence.specs.Label.{label_of, pointer_of, in_cadence, label_reply};
+ghost use Rattle.cadence.specs.Label.{label_of, pointer_of, in_cadence};
+ghost use Rattle.wire.specs.Reply.{reply_of};
 ghost use Rattle.cadence.specs.MobileFrame.{mobile_place};
+
+use wire::Refusal;
 
 // How many bits a carrier has: v is 2, 4 or 6.
 #[derive(Clone, Copy)]
@@ -22,13 +25,6 @@ pub enum CodeRate {
     ThreeQuarters,
     FiveSixths,
     SevenEighths,
-}
-
-// A label or a pointer, or the number that document 01 refuses with.
-#[derive(Clone, Copy)]
-pub enum LabelAnswer {
-    Given(u16),
-    Refused(u8),
 }
 
 // v.
@@ -144,18 +140,18 @@ pub fn admits(profile: u8, n: u16) -> bool
 }
 
 // The label of the packet whose notice has this pointer.
-pub fn label_of(n: u16, pointer: u16) -> LabelAnswer
-    ensures { label_reply result ≡ in_cadence n pointer (label_of n pointer) }
+pub fn label_of(n: u16, pointer: u16) -> Result<u16, Refusal>
+    ensures { reply_of result ≡ in_cadence n pointer (label_of n pointer) }
 {
     if pointer < n {
-        return LabelAnswer::Given(n - 1 - pointer);
+        return Ok(n - 1 - pointer);
     }
-    LabelAnswer::Refused(12)
+    Err(Refusal::PointerOrIndex)
 }
 
 // The pointer that a notice has at this label.
-pub fn pointer_of(n: u16, label: u16) -> LabelAnswer
-    ensures { label_reply result ≡ in_cadence n label (pointer_of n label) }
+pub fn pointer_of(n: u16, label: u16) -> Result<u16, Refusal>
+    ensures { reply_of result ≡ in_cadence n label (pointer_of n label) }
 {
     label_of(n, label)
 }
