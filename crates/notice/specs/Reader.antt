@@ -1,14 +1,12 @@
 -- What the reader answers: document 01's numbers 1, 2, 4 to 11, the first that applies, or the notice.
 use Rattle.std.specs.Prelude.{ℕ, ◌+◌, List, length, eqb, leb}
-use Rattle.wire.specs.Reply.{Reply, refused, given, must, or_else, reply}
+use Rattle.wire.specs.Reply.{Reply, must, or_else, reply}
 use Rattle.wire.specs.Standards.{packet_length, sync_byte, mip_pid, section_beside, longest_addressing, dvb_second}
 use Rattle.check_value.specs.Register.{register}
 use Rattle.times.specs.Release.{in_second}
 use Rattle.addressing.specs.Entries.{well_formed}
 use Rattle.notice.specs.Mip.{sync, error_indicator, unit_start_and_priority, packet_identifier, scrambling_and_adaptation, synchronization_id, section_length, synchronization_time_stamp, maximum_delay, individual_addressing_length, addressing_field, through_check, notice_in}
 use Rattle.notice.specs.declared.Notice.{Notice}
-use Rattle.notice.specs.declared.Reading.{Reading}
-use Rattle.notice.specs.declared.Reading.TheVariants.{Accepted, Refused}
 
 -- 1, 2, 4, 5: a packet, undamaged, that is a MIP
 unfoldable pub packet_refusal : List ℕ → ℕ
@@ -43,8 +41,3 @@ read_refusal s = or_else (packet_refusal s) (or_else (section_refusal s) (body_r
 
 unfoldable pub read_of : List ℕ → Reply Notice
 read_of s = reply (read_refusal s) (notice_in s)
-
--- an answer's number and values
-abbrev pub reading_reply : Reading → Reply Notice
-reading_reply (Accepted n) = given n
-reading_reply (Refused n) = refused n

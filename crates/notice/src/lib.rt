@@ -4,10 +4,11 @@
 ghost use Rattle.std.specs.Prelude.{◌≡◌};
 ghost use Rattle.check_value.specs.Register.{register};
 ghost use Rattle.notice.specs.Mip.{sync, error_indicator, unit_start_and_priority, packet_identifier, scrambling_and_adaptation, continuity_counter, synchronization_id, section_length, pointer, periodic_flag, future_use, synchronization_time_stamp, maximum_delay, tps_mip, individual_addressing_length, addressing_field, through_check, notice_in};
-ghost use Rattle.notice.specs.Reader.{packet_refusal, section_refusal, body_refusal, read_refusal, read_of, reading_reply};
+ghost use Rattle.notice.specs.Reader.{packet_refusal, section_refusal, body_refusal, read_of};
+ghost use Rattle.wire.specs.Reply.{reply, reply_of};
 
 use times::Steps;
-use wire::ADDRESSING_START;
+use wire::{ADDRESSING_START, Refusal};
 
 // What a notice says beside its addressing field.
 #[repr(C)]
@@ -20,13 +21,6 @@ pub struct Notice {
     pub sts: Steps,
     pub md: Steps,
     pub tps: u32,
-}
-
-// What reading answers.
-#[derive(Clone, Copy)]
-pub enum Reading {
-    Accepted(Notice),
-    Refused(u8),
 }
 
 // The fields of table 1, in its order, each as its definition in specs/Mip.antt says; bytes beyond the end read as 0.
@@ -145,112 +139,92 @@ fn check_left(p: &[u8]) -> u32
     check_value::register_of(&p[..through])
 }
 
-// 1, 2, 4 or 5, or 0 for none.
+// 1, 2, 4 or 5: a packet, undamaged, that is a MIP.
 #[tactic(auto, unfolding(crate::specs::Reader::packet_refusal))]
-fn packet_refusal(p: &[u8]) -> u8
-    ensures { result ≡ packet_refusal p.now }
+fn check_packet(p: &[u8]) -> Result<(), Refusal>
+    ensures { reply_of result ≡ reply (packet_refusal p.now) tt }
 {
     if p.len() != wire::PACKET_LENGTH {
-        return 1;
+        return Err(Refusal::NotAPacket);
     }
     if sync(p) != wire::SYNC_BYTE {
-        return 2;
+        return Err(Refusal::SyncByte);
     }
     if error_indicator(p) != 0 {
-        return 4;
+        return Err(Refusal::ErrorIndicator);
     }
     if packet_identifier(p) != wire::MIP_PID {
-        return 5;
+        return Err(Refusal::PacketIdentifier);
     }
-    0
+    Ok(())
 }
 
-// 6 to 9, or 0 for none.
+// 6 to 9: the fixed header bits, the scheme, the lengths and the check value.
 #[tactic(auto, unfolding(crate::specs::Reader::section_refusal))]
-pub fn section_refusal(p: &[u8]) -> u8
-    ensures { result ≡ section_refusal p.now }
+pub fn check_section(p: &[u8]) -> Result<(), Refusal>
+    ensures { reply_of result ≡ reply (section_refusal p.now) tt }
 {
     if unit_start_and_priority(p) != 3 {
-        return 6;
+        return Err(Refusal::HeaderBits);
     }
     if scrambling_and_adaptation(p) != 1 {
-        return 6;
+        return Err(Refusal::HeaderBits);
     }
     if synchronization_id(p) != 0 {
-        return 7;
+        return Err(Refusal::SynchronizationId);
     }
     let a = individual_addressing_length(p) as usize;
     if a > wire::LONGEST_ADDRESSING {
-        return 8;
+        return Err(Refusal::SectionLength);
     }
     if section_length(p) as usize != wire::SECTION_BESIDE + a {
-        return 8;
+        return Err(Refusal::SectionLength);
     }
-    let rest = check_left(p);
-    if rest != 0 {
-        return 9;
+    if check_left(p) != 0 {
+        return Err(Refusal::CheckValue);
     }
-    0
+    Ok(())
 }
 
-// 10 or 11, or 0 for none.
+// 10 and 11: the addressing field's form and the times.
 #[tactic(auto, unfolding(crate::specs::Reader::body_refusal))]
-fn body_refusal(p: &[u8]) -> u8
-    ensures { result ≡ body_refusal p.now }
+fn check_body(p: &[u8]) -> Result<(), Refusal>
+    ensures { reply_of result ≡ reply (body_refusal p.now) tt }
 {
     if !addressing::well_formed(addressing_part(p)) {
-        return 10;
+        return Err(Refusal::AddressingForm);
     }
     if !times::dvb_in_second(synchronization_time_stamp(p)) {
-        return 11;
+        return Err(Refusal::Times);
     }
     if !times::dvb_in_second(maximum_delay(p)) {
-        return 11;
+        return Err(Refusal::Times);
     }
-    0
-}
-
-// The number that a packet is refused with, or 0 for none.
-#[tactic(auto, unfolding(crate::specs::Reader::read_refusal))]
-fn read_refusal(p: &[u8]) -> u8
-    ensures { result ≡ read_refusal p.now }
-{
-    let first = packet_refusal(p);
-    if first != 0 {
-        return first;
-    }
-    let second = section_refusal(p);
-    if second != 0 {
-        return second;
-    }
-    body_refusal(p)
+    Ok(())
 }
 
 // The fields of a packet.
 fn notice_in(p: &[u8]) -> Notice
     ensures { result ≡ notice_in p.now }
 {
-    let sts = synchronization_time_stamp(p);
-    let md = maximum_delay(p);
     Notice {
         continuity: continuity_counter(p),
         pointer: pointer(p),
         periodic: periodic_flag(p),
         reserved: future_use(p),
-        sts,
-        md,
+        sts: synchronization_time_stamp(p),
+        md: maximum_delay(p),
         tps: tps_mip(p),
     }
 }
 
 // Reads a notice from any bytes.
-#[tactic(auto, unfolding(crate::specs::Reader::read_of))]
-pub fn read_notice(p: &[u8]) -> Reading
-    ensures { reading_reply result ≡ read_of p.now }
+#[tactic(auto, unfolding(crate::specs::Reader::read_of, crate::specs::Reader::read_refusal))]
+pub fn read_notice(p: &[u8]) -> Result<Notice, Refusal>
+    ensures { reply_of result ≡ read_of p.now }
 {
-    let number = read_refusal(p);
-    if number != 0 {
-        return Reading::Refused(number);
-    }
-    Reading::Accepted(notice_in(p))
+    check_packet(p)?;
+    check_section(p)?;
+    check_body(p)?;
+    Ok(notice_in(p))
 }
