@@ -2,12 +2,14 @@
 #![tactic(auto)]
 
 ghost use Rattle.std.specs.Prelude.{◌≡◌, ◌||◌, eqb, ltb};
-ghost use Rattle.judging.specs.Judgement.{judgement_of};
+ghost use Rattle.wire.specs.Reply.{reply, reply_of};
+ghost use Rattle.judging.specs.Judgement.{judgement_of, taken_of};
 ghost use Rattle.judging.specs.Judge.{arrival_refusal, carries, taken_refusal, limited, mip_taken, judge_mip, judge_arrived, judge_given};
 
-use addressing::{Settings, Walked};
+use addressing::Settings;
 use state::Board;
 use times::Periods;
+use wire::Refusal;
 
 // What a numbers notice carries: profile 1 alone has it. The index is the next mark's, 255 for unknown.
 #[repr(C)]
@@ -30,32 +32,23 @@ pub struct Taken {
     pub md: u32,
 }
 
-// How a packet that arrived right was judged: it carries no notice; a number of C ignores its notice; or its notice is taken.
-#[derive(Clone, Copy)]
-pub enum Judged {
-    Plain,
-    Counts(u8),
-    Takes(Taken),
-}
-
 const UNKNOWN: u8 = 255;
 
-// 1, 2 or 3, or 0 for none.
+// 1, 2 and 3, of any packet with its arrival tick.
 #[tactic(auto, unfolding(crate::specs::Judge::arrival_refusal))]
-pub fn arrival_refusal(profile: u8, p: &[u8], tick: u32) -> u8
-    ensures { result ≡ arrival_refusal profile p.now tick }
+pub fn check_arrival(profile: u8, p: &[u8], tick: u32) -> Result<(), Refusal>
+    ensures { reply_of result ≡ reply (arrival_refusal profile p.now tick) tt }
 {
     if p.len() != wire::PACKET_LENGTH {
-        return 1;
+        return Err(Refusal::NotAPacket);
     }
-    let sync = p[0];
-    if sync != wire::SYNC_BYTE {
-        return 2;
+    if p[0] != wire::SYNC_BYTE {
+        return Err(Refusal::SyncByte);
     }
     if !state::in_second(profile, tick) {
-        return 3;
+        return Err(Refusal::Tick);
     }
-    0
+    Ok(())
 }
 
 // Whether the packet carries a notice for a slave of this profile.
@@ -63,124 +56,101 @@ pub fn arrival_refusal(profile: u8, p: &[u8], tick: u32) -> u8
 fn carries(profile: u8, p: &[u8]) -> bool
     ensures { result ≡ carries profile p.now }
 {
-    if profile != 0 {
-        return false;
-    }
-    notice::packet_identifier(p) == wire::MIP_PID
+    profile == 0 && notice::packet_identifier(p) == wire::MIP_PID
 }
 
 // The next mark's index is 0 to 19, or unknown.
 fn index_allowed(index: u8) -> bool
     ensures { result ≡ (eqb index 255 || ltb index 20) }
 {
-    if index == UNKNOWN {
-        return true;
-    }
-    index < 20
+    index == UNKNOWN || index < 20
 }
 
-// 11, 12 or 13, or 0 for none.
+// 11, 12 and 13, of a notice that is otherwise right.
 #[tactic(auto, unfolding(crate::specs::Judge::taken_refusal))]
-fn taken_refusal(b: Board, t: Taken) -> u8
-    ensures { result ≡ taken_refusal b t }
+fn check_taken(b: Board, t: Taken) -> Result<(), Refusal>
+    ensures { reply_of result ≡ reply (taken_refusal b t) tt }
 {
     if !state::in_second(b.profile, t.sts) {
-        return 11;
+        return Err(Refusal::Times);
     }
     if !state::in_second(b.profile, t.md) {
-        return 11;
+        return Err(Refusal::Times);
     }
     if t.pointer >= b.n {
-        return 12;
+        return Err(Refusal::PointerOrIndex);
     }
     if !index_allowed(t.index) {
-        return 12;
+        return Err(Refusal::PointerOrIndex);
     }
-    let settings = t.settings;
-    if !state::delay_kept(b, t.md, settings.od) {
-        return 13;
+    if !state::delay_kept(b, t.md, t.settings.od) {
+        return Err(Refusal::Delay);
     }
-    0
+    Ok(())
 }
 
 // A notice that is otherwise right: 11 to 13 ignore it, else it is taken.
 #[tactic(auto, unfolding(crate::specs::Judge::limited))]
-fn limited(b: Board, t: Taken) -> Judged
-    ensures { judgement_of result ≡ limited b t }
+fn limited(b: Board, t: Taken) -> Result<Taken, Refusal>
+    ensures { taken_of result ≡ limited b t }
 {
-    let number = taken_refusal(b, t);
-    if number != 0 {
-        return Judged::Counts(number);
-    }
-    Judged::Takes(t)
+    check_taken(b, t)?;
+    Ok(t)
 }
 
 // What a MIP gives.
 fn mip_taken(p: &[u8], settings: Settings) -> Taken
     ensures { result ≡ mip_taken p.now settings }
 {
-    let sts = notice::synchronization_time_stamp(p);
-    let md = notice::maximum_delay(p);
     Taken {
         pointer: notice::pointer(p),
         index: UNKNOWN,
-        settings: settings,
-        sts: sts.0,
-        md: md.0,
+        settings,
+        sts: notice::synchronization_time_stamp(p).0,
+        md: notice::maximum_delay(p).0,
     }
 }
 
 // A MIP: 6 to 9, then one walk of its addressing field for its form and what it sets, then 11 to 13.
 #[tactic(auto, unfolding(crate::specs::Judge::judge_mip))]
-fn judge_mip(b: Board, t: Settings, p: &[u8]) -> Judged
-    ensures { judgement_of result ≡ judge_mip b t p.now }
+fn judge_mip(b: Board, t: Settings, p: &[u8]) -> Result<Taken, Refusal>
+    ensures { taken_of result ≡ judge_mip b t p.now }
 {
-    let section = notice::section_refusal(p);
-    if section != 0 {
-        return Judged::Counts(section);
-    }
-    let field = notice::addressing_part(p);
-    match addressing::settings_of(field, b.site, t) {
-        Walked::Set(settings) => limited(b, mip_taken(p, settings)),
-        Walked::Malformed => Judged::Counts(10),
-    }
+    notice::check_section(p)?;
+    let settings = addressing::settings_of(notice::addressing_part(p), b.site, t)?;
+    limited(b, mip_taken(p, settings))
 }
 
-// A packet that arrived right. 4 comes before the PID.
+// A packet that arrived right: none where it carries no notice, and an error where a number of C ignores its notice. 4 comes before the PID.
 #[tactic(auto, unfolding(crate::specs::Judge::judge_arrived))]
-pub fn judge_arrived(b: Board, t: Settings, p: &[u8]) -> Judged
+pub fn judge_arrived(b: Board, t: Settings, p: &[u8]) -> Result<Option<Taken>, Refusal>
     ensures { judgement_of result ≡ judge_arrived b t p.now }
 {
     if notice::error_indicator(p) != 0 {
-        return Judged::Counts(4);
+        return Err(Refusal::ErrorIndicator);
     }
     if carries(b.profile, p) {
-        return judge_mip(b, t, p);
+        return Ok(Some(judge_mip(b, t, p)?));
     }
-    Judged::Plain
+    Ok(None)
 }
 
 // A numbers notice whose packet arrived right. Frequency and power stay as they are.
 #[tactic(auto, unfolding(crate::specs::Judge::judge_given))]
-pub fn judge_given(b: Board, t: Settings, p: &[u8], x: Numbers) -> Judged
-    ensures { judgement_of result ≡ judge_given b t p.now x }
+pub fn judge_given(b: Board, t: Settings, p: &[u8], x: Numbers) -> Result<Taken, Refusal>
+    ensures { taken_of result ≡ judge_given b t p.now x }
 {
     if notice::error_indicator(p) != 0 {
-        return Judged::Counts(4);
+        return Err(Refusal::ErrorIndicator);
     }
-    let sts = x.sts;
-    let md = x.md;
-    let settings = Settings {
-        od: x.od,
-        frequency: t.frequency,
-        power: t.power,
-    };
-    let taken = Taken {
-        pointer: x.pointer,
-        index: x.index,
-        settings: settings,
-        sts: sts.0,
-        md: md.0,
-    };
-    limited(b, taken)
+    limited(
+        b,
+        Taken {
+            pointer: x.pointer,
+            index: x.index,
+            settings: Settings { od: x.od, ..t },
+            sts: x.sts.0,
+            md: x.md.0,
+        },
+    )
 }
