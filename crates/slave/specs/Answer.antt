@@ -1,23 +1,19 @@
 -- What the calls of a slave answer: a number that refuses the whole call, or the report on a counted packet: label, notice, mark and M/H place.
-use Rattle.std.specs.Prelude.{ℕ, Bool}
+use Rattle.std.specs.Prelude as std
+use Rattle.std.specs.Prelude.{ℕ, Bool, None, Some, Ok, Err}
 use Rattle.std.proofs.Math.Option.{Option, none, some}
-use Rattle.wire.specs.Reply.{Reply, refused, given}
-use Rattle.times.specs.Release.{Times, Due, late, released}
-use Rattle.times.specs.Answer.{dvb_times, a110_times}
+use Rattle.wire.specs.declared.Refusal.{Refusal}
+use Rattle.wire.specs.Reply.{Reply, refused, given, refusal_number, reply_of}
+use Rattle.times.specs.Release.{Due, late, released}
+use Rattle.times.specs.Answer.{steps, periods, times_in}
+use Rattle.times.specs.declared.Times as Times'
 use Rattle.state.specs.declared.Slave.{Slave}
-use Rattle.slave.specs.declared.Maybe as Maybe'
-use Rattle.slave.specs.declared.Maybe.TheVariants as maybe
 use Rattle.slave.specs.declared.NoticePart as NoticePart'
 use Rattle.slave.specs.declared.NoticePart.TheVariants as notice
 use Rattle.slave.specs.declared.MarkPart as MarkPart'
 use Rattle.slave.specs.declared.MarkPart.TheVariants as mark
 use Rattle.slave.specs.declared.Counted as Counted'
-use Rattle.slave.specs.declared.Answer as Answer'
-use Rattle.slave.specs.declared.Answer.TheVariants as answer
-use Rattle.slave.specs.declared.Outcome as Outcome'
-use Rattle.slave.specs.declared.Outcome.TheVariants as outcome
 use Rattle.slave.specs.declared.Shifted.{Shifted}
-use Rattle.slave.specs.declared.PlainTimes.{PlainTimes}
 
 -- the notice's part: none, taken, slip, or a number that ignores it
 pub data Notice : Type 0 where
@@ -57,37 +53,33 @@ left s r = record { slave = s; reply = r }
 
 -- ---- the code's answers in these numbers and values
 
-abbrev pub option_of : Maybe'.Maybe → Option ℕ
-option_of maybe.Nothing = none
-option_of (maybe.Just x) = some x
+abbrev pub option_of : std.Option ℕ → Option ℕ
+option_of None = none
+option_of (Some x) = some x
 
 abbrev pub notice_of : NoticePart'.NoticePart → Notice
 notice_of notice.Absent = absent
 notice_of notice.Taken = taken
 notice_of notice.Slip = slip
-notice_of (notice.Ignored k) = ignored k
+notice_of (notice.Ignored r) = ignored (refusal_number r)
 
-abbrev pub plain_times : PlainTimes → Times
-plain_times t = record { reference = t.reference; emission = t.emission; modulation = t.modulation; wait = t.wait }
+-- times in a unit that is counted so, or none
+abbrev pub due_in : {T : Type 0} → (T → ℕ) → std.Option (Times'.Times T) → Due
+due_in count None = late
+due_in count (Some t) = released (times_in count t)
 
 abbrev pub mark_of : MarkPart'.MarkPart → Mark
 mark_of mark.Unmarked = unmarked
 mark_of mark.Untimed = untimed
-mark_of mark.DvbLate = due 0 late
-mark_of (mark.Dvb t) = due 0 (released (dvb_times t))
-mark_of mark.A110Late = due 1 late
-mark_of (mark.A110 t) = due 1 (released (a110_times t))
+mark_of (mark.Dvb t) = due 0 (due_in steps t)
+mark_of (mark.A110 t) = due 1 (due_in periods t)
 
 abbrev pub report_of : Counted'.Counted → Report
 report_of c = record { label = option_of c.label; notice = notice_of c.notice; turn = c.turn; mark = mark_of c.mark; place = option_of c.place }
 
-abbrev pub answer_of : Answer'.Answer → Reply Report
-answer_of (answer.Refused k) = refused k
-answer_of (answer.Counted c) = given (report_of c)
-
-abbrev pub outcome_of : Outcome'.Outcome → Reply (Unit {0})
-outcome_of outcome.Done = given tt
-outcome_of (outcome.Refused k) = refused k
+abbrev pub answer_of : std.Result Counted'.Counted Refusal → Reply Report
+answer_of (Ok c) = given (report_of c)
+answer_of (Err r) = refused (refusal_number r)
 
 abbrev pub shifted_of : Shifted → Result (Unit {0})
-shifted_of r = left r.slave (outcome_of r.outcome)
+shifted_of r = left r.slave (reply_of r.outcome)

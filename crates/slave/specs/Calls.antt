@@ -1,12 +1,12 @@
 -- The calls of a slave: 15 comes first, and leaves the cold slave.
 use Rattle.std.specs.Prelude.{ℕ, Bool, cond, List}
-use Rattle.wire.specs.Reply.{refused, given}
+use Rattle.wire.specs.Reply.{refused, given, must}
 use Rattle.state.specs.Profile.{settings_kept}
 use Rattle.state.specs.Slave.{cold, hunting}
 use Rattle.state.specs.Sound.{sound}
 use Rattle.state.specs.declared.Board.{Board}
 use Rattle.state.specs.declared.Slave.{Slave}
-use Rattle.judging.specs.Judge.{judge_packet, judge_numbers}
+use Rattle.judging.specs.Judge.{arrival_refusal, judge_packet, judge_numbers}
 use Rattle.judging.specs.declared.Numbers.{Numbers}
 use Rattle.slave.specs.Answer.{Report, Result, left}
 use Rattle.slave.specs.Step.{step_of}
@@ -15,6 +15,10 @@ use Rattle.slave.specs.Gap.{gapped}
 -- what follows where a condition holds, else 15
 abbrev pub unless15 : {A : Type 0} → Bool → Result A → Result A
 unless15 ok r = cond ok r (left cold (refused 15))
+
+-- 15, then 1, 2, 3: what refuses a call with a packet before its notice is judged
+unfoldable pub ready_refusal : Slave → List ℕ → ℕ → ℕ
+ready_refusal s p tick = must (sound s) 15 (arrival_refusal s.board.profile p tick)
 
 unfoldable pub start_of : Board → Result (Unit {0})
 start_of b = unless15 (settings_kept b) (left (hunting b) (given tt))

@@ -3,5 +3,4 @@ pub mod Answer
 pub mod Step
 pub mod Gap
 pub mod Calls
-pub mod Ready
 pub mod Ways

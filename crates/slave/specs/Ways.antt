@@ -1,6 +1,9 @@
 -- What a packet changes of a slave, so that a call stores or hands back just that. The calls' contracts do not cite it but for `way_of` and
 -- `numbers_way`: what a way leaves and replies is `packet_of` and `numbers_of`.
-use Rattle.wire.specs.Reply.{refused, given}
+use Rattle.std.specs.Prelude as std
+use Rattle.std.specs.Prelude.{Ok, Err, cond, eqb}
+use Rattle.wire.specs.declared.Refusal.{Refusal}
+use Rattle.wire.specs.Reply.{refused, given, refusal_number}
 use Rattle.state.specs.Slave.{cold, nothing}
 use Rattle.state.specs.declared.Slave.{Slave}
 use Rattle.slave.specs.Answer.{absent, report_of, Report, Result, left}
@@ -26,10 +29,13 @@ marked_of s m = left (moved_to s s.settings m.count nothing) (given (report_of m
 abbrev pub moved_of : Slave → Moved → Result Report
 moved_of s m = left (moved_to s m.settings m.count m.waiting) (given (report_of m.report))
 
-abbrev pub way_of : Slave → Way → Result Report
-way_of s way.Cold = left cold (refused 15)
-way_of s (way.Refused k) = left s (refused k)
-way_of s way.Hunts = left s (given (unheard_report absent))
-way_of s (way.Short q) = short_of s q
-way_of s (way.Marked m) = marked_of s m
-way_of s (way.Moved m) = moved_of s m
+-- 15 leaves the cold slave, any other refusal the slave as it is
+abbrev pub left_by : Slave → Refusal → Slave
+left_by s r = cond (eqb (refusal_number r) 15) cold s
+
+abbrev pub way_of : Slave → std.Result Way Refusal → Result Report
+way_of s (Ok way.Hunts) = left s (given (unheard_report absent))
+way_of s (Ok (way.Short q)) = short_of s q
+way_of s (Ok (way.Marked m)) = marked_of s m
+way_of s (Ok (way.Moved m)) = moved_of s m
+way_of s (Err r) = left (left_by s r) (refused (refusal_number r))

@@ -11,10 +11,7 @@ fn to_mark(n: u32, next: u32) -> u32
     requires { next < n }
     ensures { result ≡ to_mark n next }
 {
-    if next == 0 {
-        return 0;
-    }
-    n - next
+    if next == 0 { 0 } else { n - next }
 }
 
 // The slave after k missing packets.
@@ -23,31 +20,22 @@ pub(crate) fn gapped(s: Slave, k: u16) -> Slave
     requires { sound s ≡ true }
     ensures { result ≡ gapped s k }
 {
-    let board = s.board;
-    let settings = s.settings;
-    let count = s.count;
-    let waiting = s.waiting;
-    if count.phase != 2 {
+    if s.count.phase != 2 {
         return s;
     }
-    let n = board.n as u32;
-    let next = count.next as u32;
+    let n = s.board.n as u32;
+    let next = s.count.next as u32;
     let missing = k as u32;
     let left = to_mark(n, next);
     let after = ((next + missing) % n) as u16;
-    if missing <= left {
-        return Slave {
-            board: board,
-            settings: settings,
-            count: steps::labelled(steps::past(count, 0), after),
-            waiting: waiting,
-        };
-    }
-    let marks = 1 + (missing - 1 - left) / n;
+    let (marks, waiting) = if missing <= left {
+        (0, s.waiting)
+    } else {
+        (1 + (missing - 1 - left) / n, state::nothing_waiting())
+    };
     Slave {
-        board: board,
-        settings: settings,
-        count: steps::labelled(steps::past(count, marks), after),
-        waiting: state::nothing_waiting(),
+        count: steps::labelled(steps::past(s.count, marks), after),
+        waiting,
+        ..s
     }
 }

@@ -1,86 +1,110 @@
-// The times of a mark whose notice waits, in a second of u units (document 01, "Release"). The limits are known to hold: the slave is sound, and the
-// arrival tick is one of its second.
+// The times of a mark whose notice waits (document 01, "Release"). The limits are known to hold: the slave is sound, and the arrival tick is one of its
+// second.
 ghost use Rattle.std.specs.Prelude.{◌≡◌, true, ◌+◌, ◌<◌, ◌^◌};
-ghost use Rattle.times.specs.Release.{wrap, reference, emission, modulation, link_delay, wait, delay_fits, times_of, due_of, Kept};
+ghost use Rattle.times.specs.Answer.{number, times_in};
+ghost use Rattle.times.specs.Release.{wrap, reference, emission, modulation, link_delay, wait, delay_fits, times_of, due_of};
 ghost use Rattle.state.specs.Profile.{second};
-ghost use Rattle.slave.specs.Answer.{due, mark_of, plain_times};
+ghost use Rattle.slave.specs.Answer.{due_in, mark_of};
+ghost use Rattle.slave.specs.Step.{release_at};
 
-use crate::{MarkPart, PlainTimes};
-use times::{A110Times, DvbTimes, Periods, Steps};
+use crate::MarkPart;
+use crate::ready::Ready;
+use times::{Times, Unit};
+
+// A mark of STS, MD and OD that came at a tick to a site with TAD, in a second of u units.
+#[derive(Clone, Copy)]
+struct Arrival {
+    u: u32,
+    sts: u32,
+    md: u32,
+    od: i16,
+    tad: u32,
+    tick: u32,
+    ghost u_small: { u + u < 2 ^ 32 },
+    ghost sts_less: { sts < u },
+    ghost md_less: { md < u },
+    ghost delay_in_second: { delay_fits u md od ≡ true },
+    ghost tad_less: { tad < u },
+    ghost tick_less: { tick < u },
+}
 
 // A sum that exceeds u loses u.
 #[tactic(auto, unfolding(times::specs::Release::wrap))]
 fn wrapped(u: u32, x: u32) -> u32
     ensures { result ≡ wrap u x }
 {
-    let exceeds = u < x;
-    if exceeds {
-        return x - u;
+    if u < x { x - u } else { x }
+}
+
+impl Arrival {
+    // The reference emission time.
+    fn reference(self) -> u32
+        ensures { result ≡ reference self.u self.sts self.md }
+    {
+        wrapped(self.u, self.sts + self.md)
     }
-    x
-}
 
-// The reference emission time.
-fn reference_time(u: u32, sts: u32, md: u32) -> u32
-    requires { sts + md < 2 ^ 32 }
-    ensures { result ≡ reference u sts md }
-{
-    wrapped(u, sts + md)
-}
-
-// The emission time.
-#[tactic(auto, unfolding(times::specs::Release::delay_fits))]
-fn emission_time(u: u32, sts: u32, md: u32, od: i16) -> u32
-    requires { (sts + u < 2 ^ 32) × (delay_fits u md od ≡ true) }
-    ensures { result ≡ emission u sts md od }
-{
-    let sum = (md as i64 + od as i64) as u32;
-    wrapped(u, sts + sum)
-}
-
-// The modulation time of an emission time.
-#[tactic(auto, unfolding(times::specs::Release::modulation))]
-fn modulation_time(u: u32, emission: u32, tad: u32) -> u32
-    requires { (emission + u < 2 ^ 32) × (tad < u) }
-    ensures { result ≡ modulation u emission tad }
-{
-    if emission < tad {
-        return emission + u - tad;
+    // The emission time.
+    #[tactic(auto, unfolding(times::specs::Release::delay_fits))]
+    fn emission(self) -> u32
+        ensures { result ≡ emission self.u self.sts self.md self.od }
+    {
+        let sum = (self.md as i64 + self.od as i64) as u32;
+        wrapped(self.u, self.sts + sum)
     }
-    emission - tad
-}
 
-// How long the mark was under way.
-#[tactic(auto, unfolding(times::specs::Release::link_delay))]
-fn link_delay(u: u32, arrival: u32, sts: u32) -> u32
-    requires { (arrival + u < 2 ^ 32) × (arrival < u) × (sts < u) }
-    ensures { result ≡ link_delay u arrival sts }
-{
-    if arrival < sts {
-        return arrival + u - sts;
+    // The modulation time.
+    #[tactic(auto, unfolding(times::specs::Release::modulation))]
+    fn modulation(self) -> u32
+        ensures { result ≡ modulation self.u (emission self.u self.sts self.md self.od) self.tad }
+    {
+        let emission = self.emission();
+        if emission < self.tad {
+            return emission + self.u - self.tad;
+        }
+        emission - self.tad
     }
-    arrival - sts
-}
 
-// How long the mark is still to be held.
-fn wait_for(md: u32, od: i16, tad: u32, link: u32) -> i64
-    ensures { result ≡ wait md od tad link }
-{
-    md as i64 + od as i64 - tad as i64 - link as i64
-}
+    // How long the mark was under way.
+    #[tactic(auto, unfolding(times::specs::Release::link_delay))]
+    fn link_delay(self) -> u32
+        ensures { result ≡ link_delay self.u self.tick self.sts }
+    {
+        if self.tick < self.sts {
+            return self.tick + self.u - self.sts;
+        }
+        self.tick - self.sts
+    }
 
-// The times in a second of u units; a wait below 0 is late.
-fn times_in(u: u32, sts: u32, md: u32, od: i16, tad: u32, arrival: u32) -> PlainTimes
-    requires { (u + u < 2 ^ 32) × Kept u sts md od tad arrival }
-    ensures { plain_times result ≡ times_of u sts md od tad arrival }
-{
-    let e = emission_time(u, sts, md, od);
-    let link = link_delay(u, arrival, sts);
-    PlainTimes {
-        reference: reference_time(u, sts, md),
-        emission: e,
-        modulation: modulation_time(u, e, tad),
-        wait: wait_for(md, od, tad, link),
+    // How long the mark is still to be held.
+    fn wait(self) -> i64
+        ensures { result ≡ wait self.md self.od self.tad (link_delay self.u self.tick self.sts) }
+    {
+        self.md as i64 + self.od as i64 - self.tad as i64 - self.link_delay() as i64
+    }
+
+    // The times, in plain numbers.
+    fn times(self) -> Times<u32>
+        ensures { times_in number result ≡ times_of self.u self.sts self.md self.od self.tad self.tick }
+    {
+        Times {
+            reference: self.reference(),
+            emission: self.emission(),
+            modulation: self.modulation(),
+            wait: self.wait(),
+        }
+    }
+
+    // The times in the unit T, or none of a late mark.
+    #[tactic(auto, unfolding(times::specs::Release::due_of))]
+    fn due<T: Unit>(self) -> Option<Times<T>>
+        ensures { due_in T.count result ≡ due_of self.u self.sts self.md self.od self.tad self.tick }
+    {
+        let times = self.times();
+        if times.wait < 0 {
+            return None;
+        }
+        Some(times.in_unit())
     }
 }
 
@@ -89,37 +113,37 @@ fn times_in(u: u32, sts: u32, md: u32, od: i16, tad: u32, arrival: u32) -> Plain
 fn second_of(profile: u8) -> u32
     ensures { result ≡ second profile }
 {
-    if profile == 1 {
-        return times::A110_SECOND;
-    }
-    times::DVB_SECOND
+    if profile == 1 { times::A110_SECOND } else { times::DVB_SECOND }
 }
 
-// The release of a notice that waits, in the unit of its profile. The parts come one by one: the compiler then keeps them out of memory.
-#[tactic(auto, unfolding(state::specs::Profile::second, times::specs::Release::due_of))]
-pub(crate) fn release_at(profile: u8, tad: u32, od: i16, sts: u32, md: u32, tick: u32) -> MarkPart
-    requires { Kept (second profile) sts md od tad tick × (profile < 2) }
-    ensures { mark_of result ≡ due profile (due_of (second profile) sts md od tad tick) }
-{
-    let t = times_in(second_of(profile), sts, md, od, tad, tick);
-    if profile == 1 {
-        if t.wait < 0 {
-            return MarkPart::A110Late;
+impl Ready {
+    // The mark on this packet, whose notice waits.
+    fn arrival(self) -> Arrival
+        requires { (self.slave.count.phase ≡ 2) × (self.slave.waiting.pending ≡ 1) }
+        ensures { due_of result.u result.sts result.md result.od result.tad result.tick ≡ due_of (second self.slave.board.profile) self.slave.waiting.sts self.slave.waiting.md self.slave.settings.od self.slave.board.tad self.tick }
+    {
+        let s = self.slave;
+        Arrival {
+            u: second_of(s.board.profile),
+            sts: s.waiting.sts,
+            md: s.waiting.md,
+            od: s.settings.od,
+            tad: s.board.tad,
+            tick: self.tick,
         }
-        return MarkPart::A110(A110Times {
-            reference: Periods(t.reference),
-            emission: Periods(t.emission),
-            modulation: Periods(t.modulation),
-            wait: t.wait,
-        });
     }
-    if t.wait < 0 {
-        return MarkPart::DvbLate;
+
+    // Its release, in the unit of its profile.
+    #[tactic(auto, unfolding(crate::specs::Step::release_at))]
+    pub(crate) fn release(self) -> MarkPart
+        requires { (self.slave.count.phase ≡ 2) × (self.slave.waiting.pending ≡ 1) }
+        ensures { mark_of result ≡ release_at self.slave self.tick }
+    {
+        let arrival = self.arrival();
+        if self.slave.board.profile == 1 {
+            MarkPart::A110(arrival.due())
+        } else {
+            MarkPart::Dvb(arrival.due())
+        }
     }
-    MarkPart::Dvb(DvbTimes {
-        reference: Steps(t.reference),
-        emission: Steps(t.emission),
-        modulation: Steps(t.modulation),
-        wait: t.wait,
-    })
 }

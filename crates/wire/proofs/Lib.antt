@@ -5,3 +5,4 @@ pub mod Puts
 pub mod Numbers
 pub mod Beyond
 pub mod Bytes
+pub mod Refusals

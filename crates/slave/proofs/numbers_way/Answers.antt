@@ -1,36 +1,37 @@
--- Each of 15, 1 to 3 and 20 is judged once, in order; a notice past them finds a sound slave and a tick of its second.
-use Rattle.std.proofs.Common.{◌≡◌, ◌∙◌, sym, refl, true, arith}
-use Rattle.state.specs.Profile.{settings_kept}
-use Rattle.judging.proofs.Judging.{arrived_tick}
-use Rattle.slave.proofs.Calling.{unsound_settings, unsound_parts, sound_parts, numbers_cold, numbers_refused, numbers_20, numbers_steps}
+-- A numbers notice that 15 and 1 to 3 do not refuse is 20's in profile 0, else a judged step; a refusal is the call's.
+use Rattle.std.proofs.Common.{◌≡◌, ◌∙◌, sym, ap, Ok, Bool, true, false, ℕ, List}
+use Rattle.std.specs.Prelude.{cond, eqb}
+use Rattle.std.proofs.lemmas.Result.{err_from_is_err_and}
+use borrow.Author.Tests.{eq-eqb, ne_eqb}
+use Rattle.wire.proofs.Refusals.{refusal_positive}
+use Rattle.state.specs.declared.Slave.{Slave}
+use Rattle.judging.specs.Judge.{judge_given}
+use Rattle.judging.specs.Judgement.{Refuse}
+use Rattle.judging.specs.declared.Numbers.{Numbers}
+use Rattle.slave.specs.Step.{step_of}
+use Rattle.slave.specs.Calls.{ready_refusal, numbers_of}
+use Rattle.slave.specs.Ways.{way_of}
+use Rattle.slave.proofs.Calling.{numbers_is, call_refused, call_steps}
 use Rattle.slave.proofs.numbers_way.Goals as goal
 
-pub returns-then-not-settings_kept : goal.returns-then-not-settings_kept
-returns-then-not-settings_kept c = numbers_cold _ _ _ _ (unsound_settings _ (cc))
+-- what follows 15 and 1 to 3: 20 in profile 0, else the judged step
+stepped : (s : Slave) (p : List ℕ) (tick : ℕ) (x : Numbers) → ready_refusal s p tick ≡ 0 → (b : Bool) → eqb s.board.profile 0 ≡ b
+    → step_of s (cond b (Refuse 20) (judge_given s.board s.settings p x)) tick ≡ numbers_of s p tick x
+stepped s p tick x e b q =
+    ap (λ (t : Bool). step_of s (cond t (Refuse 20) (judge_given s.board s.settings p x)) tick) (sym q)
+    ∙ call_steps _ _ _ _ e ∙ numbers_is _ _ _ _
 
-pub returns-then-not-parts_fit : goal.returns-then-not-parts_fit
-returns-then-not-parts_fit c =
-    let kept : settings_kept c.args.s.board ≡ true = cc in
-    numbers_cold _ _ _ _ (unsound_parts _ kept (cc))
+pub returns-in_err-r : goal.returns-in_err-r
+returns-in_err-r c =
+    let p = err_from_is_err_and c.from_residual.result c.from_residual.ensures.1 in
+    rw (p.1, p.2) (call_refused _ _ _ _ _ c.in_err-r.ensures.refusal (refusal_positive _) ∙ numbers_is _ _ _ _)
 
-pub returns-then-number-ne0 : goal.returns-then-number-ne0
-returns-then-number-ne0 c =
-    let kept : settings_kept c.args.s.board ≡ true = cc in
-    numbers_refused _ _ _ _ (sound_parts _ kept (cc)) _ c.arrival_refusal-number.ensures c.if-number-ne0.true
-
-pub returns-then-board-eq0 : goal.returns-then-board-eq0
-returns-then-board-eq0 c =
-    let kept : settings_kept c.args.s.board ≡ true = cc in
-    numbers_20 _ _ _ _ (sound_parts _ kept (cc)) (sym c.arrival_refusal-number.ensures ∙ c.if-number-ne0.false) c.if-board-eq0.true
-
-pub given-requires : goal.given-requires
-given-requires c =
-    let kept : settings_kept c.args.s.board ≡ true = cc in
-    let none : c.arrival_refusal-number.result ≡ 0 = omega arith in
-    record { is_sound = sound_parts _ kept (cc); is_in_second = arrived_tick _ _ _ (sym c.arrival_refusal-number.ensures ∙ none) }
+pub returns-then-s-eq0 : goal.returns-then-s-eq0
+unfolding step_of
+returns-then-s-eq0 c = stepped _ _ _ _ (sym c.in_ok-r.ensures.refusal) true (eq-eqb _ 0 c.if-s-eq0.true)
 
 pub returns : goal.returns
 returns c =
-    let kept : settings_kept c.args.s.board ≡ true = cc in
-    let none : c.arrival_refusal-number.result ≡ 0 = omega arith in
-    c.given.ensures ∙ numbers_steps _ _ _ _ (sound_parts _ kept (cc)) (sym c.arrival_refusal-number.ensures ∙ none) c.if-board-eq0.false _ refl
+    let v = c.in_ok-r.ensures.value in
+    ap (λ (x : Slave). way_of x (Ok c.given.result)) (sym v.0) ∙ (rw (v.0, v.1) at c.given.ensures)
+    ∙ stepped _ _ _ _ (sym c.in_ok-r.ensures.refusal) false (ne_eqb _ 0 c.if-s-eq0.false)

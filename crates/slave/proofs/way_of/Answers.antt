@@ -1,31 +1,18 @@
--- Each of 15 and 1 to 3 is judged once, in order; a packet past them finds a sound slave and a tick of its second.
-use Rattle.std.proofs.Common.{◌≡◌, ◌∙◌, sym, refl, true, arith}
-use Rattle.state.specs.Profile.{settings_kept}
-use Rattle.judging.proofs.Judging.{arrived_tick}
-use Rattle.slave.proofs.Calling.{unsound_settings, unsound_parts, sound_parts, packet_cold, packet_refused, packet_steps}
+-- A packet that 15 and 1 to 3 do not refuse is a judged step; a refusal is the call's.
+use Rattle.std.proofs.Common.{◌∙◌, sym, ap, Ok}
+use Rattle.std.proofs.lemmas.Result.{err_from_is_err_and}
+use Rattle.wire.proofs.Refusals.{refusal_positive}
+use Rattle.state.specs.declared.Slave.{Slave}
+use Rattle.slave.specs.Ways.{way_of}
+use Rattle.slave.proofs.Calling.{packet_is, call_refused, call_steps}
 use Rattle.slave.proofs.way_of.Goals as goal
-
-pub returns-then-not-settings_kept : goal.returns-then-not-settings_kept
-returns-then-not-settings_kept c = packet_cold _ _ _ (unsound_settings _ (cc))
-
-pub returns-then-not-parts_fit : goal.returns-then-not-parts_fit
-returns-then-not-parts_fit c =
-    let kept : settings_kept c.args.s.board ≡ true = cc in
-    packet_cold _ _ _ (unsound_parts _ kept (cc))
-
-pub returns-then-refusal-ne0 : goal.returns-then-refusal-ne0
-returns-then-refusal-ne0 c =
-    let kept : settings_kept c.args.s.board ≡ true = cc in
-    packet_refused _ _ _ (sound_parts _ kept (cc)) _ c.arrival_refusal-refusal.ensures c.if-refusal-ne0.true
-
-pub arrived-requires : goal.arrived-requires
-arrived-requires c =
-    let kept : settings_kept c.args.s.board ≡ true = cc in
-    let none : c.arrival_refusal-refusal.result ≡ 0 = omega arith in
-    record { is_sound = sound_parts _ kept (cc); is_in_second = arrived_tick _ _ _ (sym c.arrival_refusal-refusal.ensures ∙ none) }
 
 pub returns : goal.returns
 returns c =
-    let kept : settings_kept c.args.s.board ≡ true = cc in
-    let none : c.arrival_refusal-refusal.result ≡ 0 = omega arith in
-    c.arrived.ensures ∙ packet_steps _ _ _ (sound_parts _ kept (cc)) (sym c.arrival_refusal-refusal.ensures ∙ none) _ refl
+    let v = c.in_ok-r.ensures.value in
+    ap (λ (x : Slave). way_of x (Ok c.arrived.result)) (sym v.0) ∙ (rw (v.0, v.1) at c.arrived.ensures) ∙ call_steps _ _ _ _ (sym c.in_ok-r.ensures.refusal) ∙ packet_is _ _ _
+
+pub returns-in_err-r : goal.returns-in_err-r
+returns-in_err-r c =
+    let p = err_from_is_err_and c.from_residual.result c.from_residual.ensures.1 in
+    rw (p.1, p.2) (call_refused _ _ _ _ _ c.in_err-r.ensures.refusal (refusal_positive _) ∙ packet_is _ _ _)

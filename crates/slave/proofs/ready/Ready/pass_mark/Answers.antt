@@ -4,13 +4,14 @@ use Rattle.state.proofs.Sound.{fitting}
 use Rattle.slave.specs.Answer.{mark_of}
 use Rattle.slave.specs.Step.{labelled}
 use Rattle.slave.proofs.Stepping.{counts_mark}
-use Rattle.slave.proofs.steps.pass_mark.Goals as goal
+use Rattle.slave.proofs.ready.Ready.pass_mark.Goals as goal
 
 pub next_label-requires : goal.next_label-requires
-next_label-requires c = (fitting c.args.s c.requires.0).below
+next_label-requires c = (fitting c.args.self.slave c.args.self.is_sound).below
 
 pub returns : goal.returns
-returns c = λ tick m.
+returns c =
+    let s = c.args.self.slave in
     let after = c.past-after in
-    counts_mark c.args.s 0 tick c.requires.1 c.requires.2 (mark_of c.args.own) after.result c.labelled.result _ m after.ensures
+    counts_mark s 0 c.args.self.tick c.requires.0 c.requires.1 (mark_of c.mark.result) after.result c.labelled.result _ c.mark.ensures after.ensures
     (c.labelled.ensures ∙ ap (labelled after.result) c.next_label.ensures) c.counted.ensures

@@ -1,5 +1,5 @@
 -- Where 13 holds, MD + OD is a natural number below u.
-use Rattle.std.proofs.Common.{◌≡◌, ◌∙◌, sym, ap, subst, arith, ℕ, ◌+◌, ◌<◌, ◌^◌, true, ℤ, pos, ◌+ℤ◌, Fits, w32, w64, to_z, of_z}
+use Rattle.std.proofs.Common.{◌≡◌, ◌∙◌, sym, ap, subst, arith, rules, ℕ, ◌+◌, ◌<◌, ◌^◌, true, ℤ, pos, ◌+ℤ◌, Fits, w32, w64, to_z, of_z}
 use lib.Dec.{T, lit<}
 use lib.IntN.{nat_abs}
 use lib.Signed.{non_neg}
@@ -9,7 +9,7 @@ use Rattle.times.specs.Whole.{plus}
 use Rattle.times.specs.Release.{wrap, delay_fits}
 use Rattle.times.proofs.Words.{from_u32, from_i16, sum_holds}
 use Rattle.times.proofs.Formulas.{delay_whole, delay_less, sum_apart}
-use Rattle.slave.proofs.release.emission_time.Goals as goal
+use Rattle.slave.proofs.release.Arrival.emission.Goals as goal
 
 -- what the sum reads as
 module _ (u md : ℕ) (od : ℤ) (m : md < 2 ^ 32) (o : SFits w16 od) (fits : delay_fits u md od ≡ true) where
@@ -27,15 +27,20 @@ module _ (u md : ℕ) (od : ℤ) (m : md < 2 ^ 32) (o : SFits w16 od) (fits : de
 
 pub overflow_cast-sum-3 : goal.overflow_cast-sum-3
 overflow_cast-sum-3 c =
-    let a = c.args in
-    let r = read a.u a.md a.od c.ranges.md.fits c.ranges.od c.requires.1 in
+    let a = c.args.self in
+    let o : SFits w16 a.od = search rules in
+    let r = read a.u a.md a.od (omega arith) o a.delay_in_second in
     subst (λ (z : ℤ). T (non_neg z) × Fits w32 (nat_abs z)) (sym r)
-    (tt, record { fits = omega (arith, delay_less a.u a.md a.od c.requires.1) })
+    (tt, record { fits = omega (arith, delay_less a.u a.md a.od a.delay_in_second) })
 
-pub overflow_add-sts : goal.overflow_add-sts
-overflow_add-sts c =
-    let a = c.args in record { fits = omega (arith, less a.u a.md a.od c.ranges.md.fits c.ranges.od c.requires.1) }
+pub overflow_add-self : goal.overflow_add-self
+overflow_add-self c =
+    let a = c.args.self in
+    let o : SFits w16 a.od = search rules in
+    record { fits = omega (arith, less a.u a.md a.od (omega arith) o a.delay_in_second) }
 
 pub returns : goal.returns
 returns c =
-    let a = c.args in c.wrapped.ensures ∙ emits a.u a.md a.od c.ranges.md.fits c.ranges.od c.requires.1 a.sts
+    let a = c.args.self in
+    let o : SFits w16 a.od = search rules in
+    c.wrapped.ensures ∙ emits a.u a.md a.od (omega arith) o a.delay_in_second a.sts

@@ -1,0 +1,33 @@
+// What a call leaves to its steps: a sound slave, and an arrival tick of its second.
+ghost use Rattle.std.specs.Prelude.{◌≡◌, true, IfOk};
+ghost use Rattle.wire.specs.Reply.{number_of, reply_of};
+ghost use Rattle.times.specs.Release.{in_second};
+ghost use Rattle.state.specs.Profile.{second};
+ghost use Rattle.state.specs.Sound.{sound};
+ghost use Rattle.slave.specs.Calls.{ready_refusal};
+
+use state::Slave;
+use wire::Refusal;
+
+#[derive(Clone, Copy)]
+pub(crate) struct Ready {
+    pub(crate) slave: Slave,
+    pub(crate) tick: u32,
+    pub(crate) ghost is_sound: { sound slave ≡ true },
+    pub(crate) ghost is_in_second: { in_second (second slave.board.profile) tick ≡ true },
+}
+
+impl Ready {
+    // 15, then 1 to 3.
+    #[tactic(auto, unfolding(crate::specs::Calls::ready_refusal))]
+    pub(crate) fn new(s: Slave, p: &[u8], tick: u32) -> Result<Ready, Refusal>
+        ensures refusal { number_of (reply_of result) ≡ ready_refusal s p.now tick }
+        ensures value { IfOk result (λ r. (r.slave ≡ s) × (r.tick ≡ tick)) }
+    {
+        if !state::is_sound(s) {
+            return Err(Refusal::StartSettings);
+        }
+        judging::check_arrival(s.board.profile, p, tick)?;
+        Ok(Ready { slave: s, tick })
+    }
+}
