@@ -28,15 +28,6 @@ module _ (s : Slave) (tick : ℕ) where
   unfolding mark_at
   mark_none m = rw m
 
-  module _ (m : on_mark s.count ≡ true) where
-    pub mark_untimed : (s.waiting.pending ≡ 1 → ⊥) → untimed ≡ mark_at s tick
-    unfolding mark_at
-    mark_untimed p = rw (m, ne_eqb s.waiting.pending 1 p)
-
-    pub mark_due : s.waiting.pending ≡ 1 → (mark : Mark) → mark ≡ release_at s tick → mark ≡ mark_at s tick
-    unfolding mark_at
-    mark_due p mark e = rw (m, eq-eqb s.waiting.pending 1 p) e
-
 -- a mark is counted by a locked slave, as label 0
 pub marked : (c : Count) → on_mark c ≡ true → (c.phase ≡ 2) × (c.next ≡ 0)
 marked c m = let b = both (eqb c.phase 2) _ m in (eqb-true _ _ b.0, eqb-true _ _ b.1)
