@@ -1,11 +1,13 @@
 // Big-endian numbers, two's complement, and bytes put into a lent buffer: what every format here is made of.
 #![tactic(auto)]
 
-ghost use Rattle.std.specs.Prelude.{◌≡◌, ◌+◌, ◌≤◌, get_or};
+ghost use Rattle.std.specs.Prelude.{◌≡◌, ◌+◌, ◌≤◌, ◌<◌, length, get_or, slice_index, EachIndex};
 ghost use Rattle.wire.specs.BigEndian.{be16_at, be24_at, be32_at, byte0, bytes16, bytes32};
 ghost use Rattle.wire.specs.Signed.{signed, signed16, signed24, signed32, bits16, bits32};
 ghost use Rattle.wire.specs.Put.{put_at};
 ghost use Rattle.wire.specs.Reply.{refusal_number};
+
+use std::array;
 
 // Numbers that the standards fix: specs/Standards.antt says where.
 pub const PACKET_LENGTH: usize = 188;
@@ -63,40 +65,34 @@ pub fn byte_at(b: &[u8], i: usize) -> u8
     b.get(i).copied().unwrap_or(0)
 }
 
+// The N bytes from byte i on: where N and i are constants and the length is known, one load.
+fn bytes_at<const N: usize>(b: &[u8], i: usize) -> [u8; N]
+    ensures { EachIndex result (λ k. slice_index result k ≡ get_or b.now (i + k) 0) }
+{
+    let rest = &b[i.min(b.len())..];
+    array::from_fn(|k| byte_at(rest, k))
+}
+
 // The number that two bytes spell, the first of them byte i.
 pub fn number16_at(b: &[u8], i: usize) -> u16
     ensures { result ≡ be16_at b.now i }
 {
-    if b.len() <= i {
-        return 0;
-    }
-    let high = byte_at(b, i);
-    let low = byte_at(b, i + 1);
-    (high as u16) * 256 + (low as u16)
+    u16::from_be_bytes(bytes_at(b, i))
 }
 
 // The number that three bytes spell.
 pub fn number24_at(b: &[u8], i: usize) -> u32
     ensures { result ≡ be24_at b.now i }
 {
-    if b.len() <= i {
-        return 0;
-    }
-    let high = byte_at(b, i);
-    let low = number16_at(b, i + 1);
-    (high as u32) * 65536 + (low as u32)
+    let [first, second, third]: [u8; 3] = bytes_at(b, i);
+    u32::from_be_bytes([0, first, second, third])
 }
 
 // The number that four bytes spell.
 pub fn number32_at(b: &[u8], i: usize) -> u32
     ensures { result ≡ be32_at b.now i }
 {
-    if b.len() <= i {
-        return 0;
-    }
-    let high = byte_at(b, i);
-    let low = number24_at(b, i + 1);
-    (high as u32) * 16777216 + low
+    u32::from_be_bytes(bytes_at(b, i))
 }
 
 // The lowest byte of a number.
@@ -110,93 +106,67 @@ pub fn low_byte(w: u32) -> u8
 pub fn bytes_16(w: u16) -> [u8; 2]
     ensures { result ≡ bytes16 w }
 {
-    let v = w as u32;
-    [low_byte(v / 256), low_byte(v)]
+    u16::to_be_bytes(w)
 }
 
 // The bytes of a number of 32 bits.
 pub fn bytes_32(w: u32) -> [u8; 4]
     ensures { result ≡ bytes32 w }
 {
-    [
-        low_byte(w / 16777216),
-        low_byte(w / 65536),
-        low_byte(w / 256),
-        low_byte(w),
-    ]
-}
-
-// The signed number that v means in a range up to `top` whose upper half begins at `half`.
-fn twos_complement(half: u32, top: u32, v: u32) -> i32
-    requires { (half ≤ 2147483648) × (top ≤ half + 2147483647) }
-    ensures { result ≡ signed half (top + 1) v }
-{
-    if v < half {
-        return v as i32;
-    }
-    if top < v {
-        return -1;
-    }
-    let w = top - v;
-    -1 - (w as i32)
+    u32::to_be_bytes(w)
 }
 
 // The signed number that 16 bits mean.
 pub fn signed_16(v: u16) -> i16
     ensures { result ≡ signed16 v }
 {
-    twos_complement(32768, 65535, v as u32) as i16
+    u16::cast_signed(v)
 }
 
 // The signed number that 24 bits mean; -1 beyond them.
 pub fn signed_24(v: u32) -> i32
     ensures { result ≡ signed24 v }
 {
-    twos_complement(8388608, 16777215, v)
+    if v < 0x80_0000 {
+        v as i32
+    } else if v < 0x100_0000 {
+        v as i32 - 0x100_0000
+    } else {
+        -1
+    }
 }
 
 // The signed number that 32 bits mean.
 pub fn signed_32(v: u32) -> i32
     ensures { result ≡ signed32 v }
 {
-    twos_complement(2147483648, 4294967295, v)
+    u32::cast_signed(v)
 }
 
 // The 16 bits of a signed number.
 pub fn bits_16(z: i16) -> u16
     ensures { result ≡ bits16 z }
 {
-    if z < 0 {
-        let w = -1 - z;
-        return 65535 - (w as u16);
-    }
-    z as u16
+    i16::cast_unsigned(z)
 }
 
 // The 32 bits of a signed number.
 pub fn bits_32(z: i32) -> u32
     ensures { result ≡ bits32 z }
 {
-    if z < 0 {
-        let w = -1 - z;
-        return 4294967295 - (w as u32);
-    }
-    z as u32
+    i32::cast_unsigned(z)
 }
 
 // Puts all of src into dst from byte `at` on; puts nothing where src does not fit.
+#[tactic(auto, unfolding(crate::specs::Put::put_at))]
 pub fn put(dst: &mut [u8], at: usize, src: &[u8])
     ensures { dst.new ≡ put_at dst.old at src.now }
 {
-    if dst.len() < at {
+    let Some(end) = at.checked_add(src.len()) else {
         return;
-    }
-    if dst.len() - at < src.len() {
-        return;
-    }
-    let mut i = 0;
-    while i < src.len() {
-        dst[at + i] = src[i];
-        i += 1;
+    };
+    // `get_mut` of a slice says nothing of what a write through it leaves, so the end is tested here.
+    if end <= dst.len() {
+        dst[at..end].copy_from_slice(src);
     }
 }
