@@ -1,6 +1,5 @@
 // A slave's records, and which of them are sound: the settings of a start, those in force, the count and the waiting notice
 // (document 01, "Steps of a slave" and "Saved block").
-// C lends the records with any bytes in them, so that phase, pending, profile and index stay numbers: no enum could hold what it may lend.
 #![tactic(auto)]
 
 ghost use Rattle.std.specs.Prelude.{◌≡◌};
@@ -12,7 +11,7 @@ ghost use Rattle.state.specs.Sound.{frequency_fits, index_fits, waiting_fits, lo
 use addressing::Settings;
 use times::{Periods, Steps, Unit};
 
-// The settings of a start. TAD is in the profile's own unit.
+// The settings of a start. TAD is in the profile's own unit. The profile is a number, since C lends a slave with any byte there.
 #[repr(C)]
 #[derive(Clone, Copy, PartialEq, Eq, Default)]
 pub struct Board {
@@ -22,7 +21,11 @@ pub struct Board {
     pub tad: u32,
 }
 
-// Where the slave stands in the cadence: its phase, the next packet's label and the next mark's index, 255 where it is not known.
+// The index of a mark that is not known.
+pub const UNKNOWN_INDEX: u8 = 255;
+
+// Where the slave stands in the cadence: its phase, 1 where it hunts and 2 where it is locked, the next packet's label and the next mark's index.
+// Phase and index are numbers, not an enum and an Option, since C lends a slave with any bytes there.
 #[repr(C)]
 #[derive(Clone, Copy, PartialEq, Eq)]
 pub struct Count {
@@ -31,7 +34,7 @@ pub struct Count {
     pub index: u8,
 }
 
-// The notice that waits for its mark, in the profile's own unit.
+// The notice that waits for its mark, in the profile's own unit. Pending is a number beside it, not an Option, since C lends a slave with any bytes there.
 #[repr(C)]
 #[derive(Clone, Copy, PartialEq, Eq, Default)]
 pub struct Waiting {
@@ -64,7 +67,7 @@ fn uncounted(phase: u8) -> Count
     Count {
         phase,
         next: 0,
-        index: 255,
+        index: UNKNOWN_INDEX,
     }
 }
 
@@ -137,16 +140,20 @@ fn frequency_fits(z: i32) -> bool
 fn index_fits(profile: u8, index: u8) -> bool
     ensures { result ≡ index_fits profile index }
 {
-    index == 255 || (profile == 1 && index < 20)
+    index == UNKNOWN_INDEX || (profile == 1 && index < 20)
 }
 
 // Nothing, or a pending notice that is in range and satisfies 13.
 #[tactic(auto, unfolding(crate::specs::Sound::waiting_fits, crate::specs::Sound::is_nothing))]
-fn waiting_fits(b: Board, od: i16, w: Waiting) -> bool
-    ensures { result ≡ waiting_fits b od w }
+fn waiting_fits(s: Slave) -> bool
+    ensures { result ≡ waiting_fits s.board s.settings.od s.waiting }
 {
+    let b = s.board;
+    let w = s.waiting;
     if w.pending == 1 {
-        in_second(b.profile, w.sts) && in_second(b.profile, w.md) && delay_kept(b, w.md, od)
+        in_second(b.profile, w.sts)
+            && in_second(b.profile, w.md)
+            && delay_kept(b, w.md, s.settings.od)
     } else {
         w == nothing_waiting()
     }
@@ -160,7 +167,7 @@ fn locked_fits(s: Slave) -> bool
     frequency_fits(s.settings.frequency)
         && s.count.next < s.board.n
         && index_fits(s.board.profile, s.count.index)
-        && waiting_fits(s.board, s.settings.od, s.waiting)
+        && waiting_fits(s)
 }
 
 // The parts besides the start's settings: a slave that hunts is as its start left it.
