@@ -6,14 +6,14 @@ ghost use Rattle.std.specs.Prelude.{◌≡◌};
 ghost use Rattle.times.specs.Release.{in_second};
 ghost use Rattle.state.specs.Profile.{second, delay_kept, settings_kept};
 ghost use Rattle.state.specs.Slave.{nothing, uncounted, cold, hunting};
-ghost use Rattle.state.specs.Sound.{is_zero, frequency_fits, index_fits, is_nothing, waiting_fits, is_unset, is_uncounted, hunting_fits, locked_fits, parts_fit, sound};
+ghost use Rattle.state.specs.Sound.{frequency_fits, index_fits, waiting_fits, locked_fits, parts_fit, sound};
 
 use addressing::Settings;
-use times::{Periods, Steps};
+use times::{Periods, Steps, Unit};
 
-// The settings of a start. TAD is in the profile's own unit.
+// The settings of a start. TAD is in the profile's own unit. The profile is a number, since C lends a slave with any byte there.
 #[repr(C)]
-#[derive(Clone, Copy)]
+#[derive(Clone, Copy, PartialEq, Eq, Default)]
 pub struct Board {
     pub profile: u8,
     pub n: u16,
@@ -21,18 +21,22 @@ pub struct Board {
     pub tad: u32,
 }
 
-// Where the slave stands in the cadence: its phase, the next packet's label and the next mark's index.
+// The index of a mark that is not known.
+pub const UNKNOWN_INDEX: u8 = 255;
+
+// Where the slave stands in the cadence: its phase, 1 where it hunts and 2 where it is locked, the next packet's label and the next mark's index.
+// Phase and index are numbers, not an enum and an Option, since C lends a slave with any bytes there.
 #[repr(C)]
-#[derive(Clone, Copy)]
+#[derive(Clone, Copy, PartialEq, Eq)]
 pub struct Count {
     pub phase: u8,
     pub next: u16,
     pub index: u8,
 }
 
-// The notice that waits for its mark, in the profile's own unit.
+// The notice that waits for its mark, in the profile's own unit. Pending is a number beside it, not an Option, since C lends a slave with any bytes there.
 #[repr(C)]
-#[derive(Clone, Copy)]
+#[derive(Clone, Copy, PartialEq, Eq, Default)]
 pub struct Waiting {
     pub pending: u8,
     pub sts: u32,
@@ -41,7 +45,7 @@ pub struct Waiting {
 
 // A slave: the settings of its start, those in force, its count and its waiting notice.
 #[repr(C)]
-#[derive(Clone, Copy)]
+#[derive(Clone, Copy, PartialEq, Eq)]
 pub struct Slave {
     pub board: Board,
     pub settings: Settings,
@@ -53,11 +57,7 @@ pub struct Slave {
 pub fn nothing_waiting() -> Waiting
     ensures { result ≡ nothing }
 {
-    Waiting {
-        pending: 0,
-        sts: 0,
-        md: 0,
-    }
+    Waiting::default()
 }
 
 // A count that has not begun.
@@ -65,9 +65,9 @@ fn uncounted(phase: u8) -> Count
     ensures { result ≡ uncounted phase }
 {
     Count {
-        phase: phase,
+        phase,
         next: 0,
-        index: 255,
+        index: UNKNOWN_INDEX,
     }
 }
 
@@ -76,12 +76,7 @@ pub fn cold_slave() -> Slave
     ensures { result ≡ cold }
 {
     Slave {
-        board: Board {
-            profile: 0,
-            n: 0,
-            site: 0,
-            tad: 0,
-        },
+        board: Board::default(),
         settings: addressing::no_settings(),
         count: uncounted(0),
         waiting: nothing_waiting(),
@@ -106,9 +101,10 @@ pub fn in_second(profile: u8, t: u32) -> bool
     ensures { result ≡ in_second (second profile) t }
 {
     if profile == 1 {
-        return times::a110_in_second(Periods(t));
+        times::in_second(Periods(t))
+    } else {
+        times::in_second(Steps(t))
     }
-    times::dvb_in_second(Steps(t))
 }
 
 // 13, in the profile's own unit.
@@ -117,9 +113,10 @@ pub fn delay_kept(b: Board, md: u32, od: i16) -> bool
     ensures { result ≡ delay_kept b md od }
 {
     if b.profile == 1 {
-        return times::a110_delay_fits(Periods(md), od, Periods(b.tad));
+        Periods(md).delay_fits(od, Periods(b.tad))
+    } else {
+        Steps(md).delay_fits(od, Steps(b.tad))
     }
-    times::dvb_delay_fits(Steps(md), od)
 }
 
 // The limits of a start's settings.
@@ -127,24 +124,7 @@ pub fn delay_kept(b: Board, md: u32, od: i16) -> bool
 pub fn settings_kept(b: Board) -> bool
     ensures { result ≡ settings_kept b }
 {
-    if !cadence::admits(b.profile, b.n) {
-        return false;
-    }
-    if b.site == 0 {
-        return false;
-    }
-    in_second(b.profile, b.tad)
-}
-
-// A number is 0.
-#[tactic(auto, unfolding(crate::specs::Sound::is_zero))]
-fn is_zero(z: i32) -> bool
-    ensures { result ≡ is_zero z }
-{
-    if z < 0 {
-        return false;
-    }
-    z < 1
+    cadence::admits(b.profile, b.n) && b.site != 0 && in_second(b.profile, b.tad)
 }
 
 // Signed 24 bits.
@@ -152,10 +132,7 @@ fn is_zero(z: i32) -> bool
 fn frequency_fits(z: i32) -> bool
     ensures { result ≡ frequency_fits z }
 {
-    if z < -8388608 {
-        return false;
-    }
-    z < 8388608
+    (-8_388_608..8_388_608).contains(&z)
 }
 
 // The next mark's index: unknown, else 0 to 19 in profile 1.
@@ -163,118 +140,46 @@ fn frequency_fits(z: i32) -> bool
 fn index_fits(profile: u8, index: u8) -> bool
     ensures { result ≡ index_fits profile index }
 {
-    if index == 255 {
-        return true;
-    }
-    if profile == 1 {
-        return index < 20;
-    }
-    false
-}
-
-// Nothing pending has STS and MD 0.
-#[tactic(auto, unfolding(crate::specs::Sound::is_nothing))]
-fn is_nothing(w: Waiting) -> bool
-    ensures { result ≡ is_nothing w }
-{
-    if w.pending != 0 {
-        return false;
-    }
-    if w.sts != 0 {
-        return false;
-    }
-    w.md == 0
+    index == UNKNOWN_INDEX || (profile == 1 && index < 20)
 }
 
 // Nothing, or a pending notice that is in range and satisfies 13.
-#[tactic(auto, unfolding(crate::specs::Sound::waiting_fits))]
-fn waiting_fits(b: Board, od: i16, w: Waiting) -> bool
-    ensures { result ≡ waiting_fits b od w }
+#[tactic(auto, unfolding(crate::specs::Sound::waiting_fits, crate::specs::Sound::is_nothing))]
+fn waiting_fits(s: Slave) -> bool
+    ensures { result ≡ waiting_fits s.board s.settings.od s.waiting }
 {
+    let b = s.board;
+    let w = s.waiting;
     if w.pending == 1 {
-        if !in_second(b.profile, w.sts) {
-            return false;
-        }
-        if !in_second(b.profile, w.md) {
-            return false;
-        }
-        return delay_kept(b, w.md, od);
+        in_second(b.profile, w.sts)
+            && in_second(b.profile, w.md)
+            && delay_kept(b, w.md, s.settings.od)
+    } else {
+        w == nothing_waiting()
     }
-    is_nothing(w)
-}
-
-// OD, frequency and power 0.
-#[tactic(auto, unfolding(crate::specs::Sound::is_unset))]
-fn is_unset(t: Settings) -> bool
-    ensures { result ≡ is_unset t }
-{
-    if !is_zero(t.od as i32) {
-        return false;
-    }
-    if !is_zero(t.frequency) {
-        return false;
-    }
-    t.power == 0
-}
-
-// Label 0 and the unknown index.
-#[tactic(auto, unfolding(crate::specs::Sound::is_uncounted))]
-fn is_uncounted(c: Count) -> bool
-    ensures { result ≡ is_uncounted c }
-{
-    if c.next != 0 {
-        return false;
-    }
-    c.index == 255
-}
-
-// Hunting has its zeros and the unknown index.
-#[tactic(auto, unfolding(crate::specs::Sound::hunting_fits))]
-fn hunting_fits(t: Settings, c: Count, w: Waiting) -> bool
-    ensures { result ≡ hunting_fits t c w }
-{
-    if !is_unset(t) {
-        return false;
-    }
-    if !is_uncounted(c) {
-        return false;
-    }
-    is_nothing(w)
 }
 
 // A locked slave's parts are in their ranges.
 #[tactic(auto, unfolding(crate::specs::Sound::locked_fits))]
-fn locked_fits(b: Board, t: Settings, c: Count, w: Waiting) -> bool
-    ensures { result ≡ locked_fits b t c w }
+fn locked_fits(s: Slave) -> bool
+    ensures { result ≡ locked_fits s.board s.settings s.count s.waiting }
 {
-    if !frequency_fits(t.frequency) {
-        return false;
-    }
-    if c.next >= b.n {
-        return false;
-    }
-    if !index_fits(b.profile, c.index) {
-        return false;
-    }
-    waiting_fits(b, t.od, w)
+    frequency_fits(s.settings.frequency)
+        && s.count.next < s.board.n
+        && index_fits(s.board.profile, s.count.index)
+        && waiting_fits(s)
 }
 
-// The parts besides the start's settings.
-#[tactic(auto, unfolding(crate::specs::Sound::parts_fit))]
+// The parts besides the start's settings: a slave that hunts is as its start left it.
+#[tactic(auto, unfolding(crate::specs::Sound::parts_fit, crate::specs::Sound::hunting_fits, crate::specs::Sound::is_unset, crate::specs::Sound::is_zero, crate::specs::Sound::is_uncounted, crate::specs::Sound::is_nothing))]
 pub fn parts_fit(s: Slave) -> bool
     ensures { result ≡ parts_fit s }
 {
-    let settings = s.settings;
-    let count = s.count;
-    let waiting = s.waiting;
-    if count.phase == 1 {
-        return hunting_fits(settings, count, waiting);
+    match s.count.phase {
+        1 => s == hunting_slave(s.board),
+        2 => locked_fits(s),
+        _ => false,
     }
-    if count.phase == 2 {
-        let board = s.board;
-        return locked_fits(board, settings, count, waiting);
-    }
-    false
 }
 
 // A slave whose parts a saved body may hold.
@@ -282,9 +187,5 @@ pub fn parts_fit(s: Slave) -> bool
 pub fn is_sound(s: Slave) -> bool
     ensures { result ≡ sound s }
 {
-    let board = s.board;
-    if !settings_kept(board) {
-        return false;
-    }
-    parts_fit(s)
+    settings_kept(s.board) && parts_fit(s)
 }

@@ -1,17 +1,15 @@
 -- What holds of the times of a release, for a second of u units.
 -- Their ranges, where the wait ends, when a mark is late, and one reference time for all sites.
-use mathlib.Core.Path.{◌≡◌, refl, sym, ap, ◌∙◌, subst}
-use mathlib.Core.Bool.{true, false}
-use Prim.Native.Nat.{ℕ, ◌+◌, ◌/◌, ◌%◌, ◌≤◌, ◌<◌}
+use Rattle.std.proofs.Common.{◌≡◌, sym, ap, ◌∙◌, subst, true, false, ℕ, ◌+◌, ◌-◌, ◌/◌, ◌%◌, ◌≤◌, ◌<◌, arith, ℤ, pos, ◌+ℤ◌}
 use native.Mathlib.Nat.{mod-lt, mod-mod}
-use native.Mathlib.Omega.{arith}
-use lib.Dec.{T, ltb}
-use lib.IntN.{ℤ, pos, negsuc, ◌+ℤ◌}
+use lib.Dec.{ltb}
 use lib.Signed.{lt_z}
+use borrow.Author.Differences.{up, down}
+use Rattle.std.proofs.lemmas.Int.{ints}
 use Rattle.times.specs.Whole.{plus, residue}
 use Rattle.times.specs.Release.{wrap, reference, emission, modulation, link_delay, wait, negative, delay_fits, Times, released, wait_of, times_of, due_of, Kept}
-use Rattle.times.proofs.Whole.{up, down, natural, sum, plus_is, congruent, differ, residue_only}
-use Rattle.times.proofs.Formulas.{wrap_most, wrap_residue, modulation_most, modulation_residue, link_residue, delay_least, delay_less, delay_whole, sum_apart, wait_is, late_is}
+use Rattle.times.proofs.Whole.{Diff, congruent, differ, residue_only}
+use Rattle.times.proofs.Formulas.{wrap_most, wrap_residue, modulation_most, modulation_residue, link_residue, delay_less, delay_whole, sum_apart, sum_whole, late_is}
 use Rattle.times.proofs.Answers.{Passed, passed}
 
 -- ---- ranges
@@ -57,27 +55,24 @@ module _ (u sts md : ℕ) (od : ℤ) (fits : delay_fits u md od ≡ true) where
       let c₂ = differ u (m + tad) e (modulation_residue u e tad (omega arith)) in
       let c₃ = differ u e x (wrap_residue u x) in
       let c₄ = differ u (l + sts) arrival (link_residue u arrival sts some) in
-      residue_only some (sum (natural arrival) (wait_is md od tad l)) (m % u) (mod-lt m some)
-      (congruent u _ _ (m / u + e / u + x / u + arrival / u) (m % u / u + (m + tad) / u + e / u + (l + sts) / u)
-      (omega (arith, plus_is (sts + md) od, delay_least u md od fits)))
+      let d : Diff (pos arrival +ℤ wait md od tad l) (arrival + x) (sts + tad + l) = record { is = omega (arith, ints, sum_whole u md od fits sts) } in
+      residue_only some d (m % u) (mod-lt m some)
+      (congruent u _ _ (m / u + e / u + x / u + arrival / u) (m % u / u + (m + tad) / u + e / u + (l + sts) / u) (omega arith))
 
   -- ---- a wait that is not late
   pub waits : (tad arrival : ℕ) → tad < u → negative (wait_of u sts md od tad arrival) ≡ false → Waits u md od arrival (times_of u sts md od tad arrival)
-  waits tad arrival h = by_sign (wait_of u sts md od tad arrival) refl
-    where
-      by_sign : (z : ℤ) → wait_of u sts md od tad arrival ≡ z → negative z ≡ false → Waits u md od arrival (times_of u sts md od tad arrival)
-      by_sign (pos k) e in_time =
-          let d = wait_is md od tad (link_delay u arrival sts) in
-          record {
-            units = k;
-            wait_is = e;
-            delay = plus md od;
-            delay_is = sym (delay_whole u md od fits);
-            at_most = omega (arith, d.is, ap up e, ap down e, plus_is md od, delay_least u md od fits);
-            is_in_second = delay_less u md od fits;
-            ends = sym (ap (λ (z : ℤ). residue u (pos arrival +ℤ z)) e) ∙ wait_ends tad arrival h;
-          }
-      by_sign (negsuc k) e in_time = absurd (subst T in_time tt)
+  waits tad arrival h in_time =
+      let w = wait_of u sts md od tad arrival in
+      let whole : w ≡ pos (up w - down w) = omega (arith, ints) in
+      record {
+        units = up w - down w;
+        wait_is = whole;
+        delay = plus md od;
+        delay_is = sym (delay_whole u md od fits);
+        at_most = omega (arith, ints, delay_whole u md od fits);
+        is_in_second = delay_less u md od fits;
+        ends = sym (ap (λ (z : ℤ). residue u (pos arrival +ℤ z)) whole) ∙ wait_ends tad arrival h;
+      }
 
   -- ---- late exactly when MD + OD is over before the link delay and TAD are
   pub late_after : (tad link : ℕ) → negative (wait md od tad link) ≡ ltb (plus md od) (tad + link)
