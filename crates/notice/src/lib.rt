@@ -127,9 +127,8 @@ pub fn addressing_part(p: &[u8]) -> &[u8]
 fn check_left(p: &[u8]) -> u32
     ensures { result ≡ register (through_check p.now) }
 {
-    let through = ADDRESSING_START
-        + wire::CHECK_LENGTH
-        + usize::from(individual_addressing_length(p));
+    let a = usize::from(individual_addressing_length(p));
+    let through = ADDRESSING_START + wire::CHECK_LENGTH + a;
     check_value::register_of(p.get(..through).unwrap_or(p))
 }
 
