@@ -28,7 +28,7 @@ fn check_write(room: usize, n: Notice, field: &[u8]) -> Result<(), Refusal>
     if !addressing::well_formed(field) {
         return Err(Refusal::AddressingForm);
     }
-    if !times::dvb_in_second(n.sts) || !times::dvb_in_second(n.md) {
+    if !times::in_second(n.sts) || !times::in_second(n.md) {
         return Err(Refusal::Times);
     }
     Ok(())
