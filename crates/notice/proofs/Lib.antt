@@ -1,3 +1,2 @@
 -- The laws of crate `notice`, in the order in which they build on each other.
-pub mod Parts
 pub mod Sound

@@ -118,25 +118,18 @@ fn individual_addressing_length(p: &[u8]) -> u8
 pub fn addressing_part(p: &[u8]) -> &[u8]
     ensures { result.now ≡ addressing_field p.now }
 {
-    if p.len() < ADDRESSING_START {
-        return &p[..0];
-    }
-    let end = ADDRESSING_START + individual_addressing_length(p) as usize;
-    if p.len() < end {
-        return &p[ADDRESSING_START..];
-    }
-    &p[ADDRESSING_START..end]
+    let behind = p.get(ADDRESSING_START..).unwrap_or_default();
+    let a = usize::from(individual_addressing_length(p));
+    behind.get(..a).unwrap_or(behind)
 }
 
 // The check value's register after all bytes through crc_32.
 fn check_left(p: &[u8]) -> u32
     ensures { result ≡ register (through_check p.now) }
 {
-    let through = ADDRESSING_START + wire::CHECK_LENGTH + individual_addressing_length(p) as usize;
-    if p.len() < through {
-        return check_value::register_of(p);
-    }
-    check_value::register_of(&p[..through])
+    let a = usize::from(individual_addressing_length(p));
+    let through = ADDRESSING_START + wire::CHECK_LENGTH + a;
+    check_value::register_of(p.get(..through).unwrap_or(p))
 }
 
 // 1, 2, 4 or 5: a packet, undamaged, that is a MIP.
@@ -164,20 +157,14 @@ fn check_packet(p: &[u8]) -> Result<(), Refusal>
 pub fn check_section(p: &[u8]) -> Result<(), Refusal>
     ensures { reply_of result ≡ reply (section_refusal p.now) tt }
 {
-    if unit_start_and_priority(p) != 3 {
-        return Err(Refusal::HeaderBits);
-    }
-    if scrambling_and_adaptation(p) != 1 {
+    if unit_start_and_priority(p) != 3 || scrambling_and_adaptation(p) != 1 {
         return Err(Refusal::HeaderBits);
     }
     if synchronization_id(p) != 0 {
         return Err(Refusal::SynchronizationId);
     }
-    let a = individual_addressing_length(p) as usize;
-    if a > wire::LONGEST_ADDRESSING {
-        return Err(Refusal::SectionLength);
-    }
-    if section_length(p) as usize != wire::SECTION_BESIDE + a {
+    let a = usize::from(individual_addressing_length(p));
+    if a > wire::LONGEST_ADDRESSING || usize::from(section_length(p)) != wire::SECTION_BESIDE + a {
         return Err(Refusal::SectionLength);
     }
     if check_left(p) != 0 {
@@ -194,10 +181,9 @@ fn check_body(p: &[u8]) -> Result<(), Refusal>
     if !addressing::well_formed(addressing_part(p)) {
         return Err(Refusal::AddressingForm);
     }
-    if !times::dvb_in_second(synchronization_time_stamp(p)) {
-        return Err(Refusal::Times);
-    }
-    if !times::dvb_in_second(maximum_delay(p)) {
+    if !times::in_second(synchronization_time_stamp(p))
+        || !times::in_second(maximum_delay(p))
+    {
         return Err(Refusal::Times);
     }
     Ok(())

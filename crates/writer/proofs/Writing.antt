@@ -4,83 +4,64 @@ use mathlib.Core.Bool.{true, false}
 use mathlib.Core.List.{List, ◌∷◌, ◌++◌}
 use Prim.Native.Nat.{ℕ, zero, suc, ◌+◌, ◌-◌, ◌≤◌}
 use native.Mathlib.Omega.{arith}
-use lib.ListN.{length, take, drop, length-append, length-replicate}
+use lib.ListN.{length, take, drop, length-append, length-drop, length-replicate}
 use lib.Seq.{take_at, length-take-le}
 use lib.Dec.{leb}
 use borrow.Author.Tests.{leb-true, le-leb}
 use Rattle.wire.specs.BigEndian.{bytes32}
 use Rattle.wire.specs.Standards.{dvb_second}
-use Rattle.wire.specs.Reply.{must}
-use Rattle.wire.proofs.Puts.{put_behind}
-use Rattle.wire.proofs.Tests.{passed}
-use Rattle.check_value.specs.Register.{register, sealed}
-use Rattle.check_value.proofs.Sealing.{sealed_length}
+use Rattle.wire.specs.Reply.{Reply, must, given, reply}
+use Rattle.wire.proofs.Tests.{passed, given_zero, given_output}
+use Rattle.check_value.specs.Register.{register, sealed, sealed_at}
+use borrow.Rule.Slice.PartMut.{put_mid}
+use Rattle.std.proofs.lemmas.Slice.{overwrites}
+use borrow.Author.Rules.{rules}
+use Rattle.check_value.proofs.Sealing.{sealed_length, seal_fits}
 use Rattle.times.specs.Release.{in_second}
 use Rattle.addressing.specs.Entries.{well_formed}
 use Rattle.writer.specs.Writable.{Writable}
-use Rattle.writer.specs.Writer.{write_refusal, head_of, fields_of, stuffing, mip_of}
+use Rattle.writer.specs.Writer.{write_refusal, head_of, fields_of, stuffing, mip_of, write_of}
 use Rattle.notice.specs.declared.Notice.{Notice}
 
-pub head_length : (n : Notice) (a : ℕ) → length (head_of n a) ≡ 21
-unfolding head_of
-head_length n a = refl
-
 pub fields_length : (n : Notice) (f : List ℕ) → length (fields_of n f) ≡ 21 + length f
-unfolding fields_of
-fields_length n f = length-append (head_of n (length f)) f ∙ ap (λ (k : ℕ). k + length f) (head_length n (length f))
+unfolding fields_of head_of
+fields_length n f = length-append (head_of n (length f)) f
 
--- the head and the addressing field
-pub fields_put : (n : Notice) (f d d₁ d₂ h : List ℕ) → h ≡ head_of n (length f)
-    → d₁ ≡ take 0 d ++ h ++ drop (0 + length h) d
-    → d₂ ≡ take 21 d₁ ++ f ++ drop (21 + length f) d₁
-    → d₂ ≡ fields_of n f ++ drop (21 + length f) d
-unfolding head_of fields_of
-fields_put n f d d₁ d₂ h e p q =
-    let p' : d₁ ≡ head_of n (length f) ++ drop 21 d = p ∙ ap (λ (x : List ℕ). x ++ drop (0 + length x) d) e in
-    q ∙ ap (λ (x : List ℕ). take 21 x ++ f ++ drop (21 + length f) x) p' ∙ put_behind (head_of n (length f)) f d 21 refl
-
--- the stuffing, out of as much as there can be
 pub length_stuffing : (k : ℕ) → length (stuffing k) ≡ k
 length_stuffing k = length-replicate {A = ℕ} k 255
 
-pub take_stuffing : (k m : ℕ) → k ≤ m → take k (stuffing m) ≡ stuffing k
-take_stuffing zero m h = refl
-take_stuffing (suc k) zero h = absurd (omega arith)
-take_stuffing (suc k) (suc m) h = ap (λ (l : List ℕ). 255 ∷ l) (take_stuffing k m (omega arith))
+-- p stands at the front of d; x, of k bytes, is put right behind it
+behind : (p x d : List ℕ) (at k end : ℕ) → length p ≡ at → length x ≡ k → at + k ≡ end → put_mid at k (p ++ drop at d) x ≡ (p ++ x) ++ drop end d
+behind p x d at k end e g h = search (rules, overwrites)
 
-pub stuffing_length : (from : ℕ) → 25 ≤ from → length (take (188 - from) (stuffing 163)) ≡ 188 - from
-stuffing_length from h = length-take-le (188 - from) (stuffing 163) (omega (arith, length_stuffing 163))
+-- and the check value of p
+sealed_behind : (p d : List ℕ) (end : ℕ) → length p ≡ end → end + 4 ≤ length d → sealed_at end (p ++ drop end d) ≡ sealed p ++ drop (end + 4) d
+sealed_behind p d end e h =
+    seal_fits end (p ++ drop end d) (omega (arith, length-append p (drop end d), length-drop end d)) ∙ search (rules, overwrites, take_at)
 
-pub stuffing_put : (d d' : List ℕ) (from : ℕ) → 25 ≤ from → from ≤ 188
-    → d' ≡ take from d ++ take (188 - from) (stuffing 163) ++ drop (from + length (take (188 - from) (stuffing 163))) d
-    → d' ≡ take from d ++ stuffing (188 - from) ++ drop 188 d
-stuffing_put d d' from h l p =
-    let e : from + length (take (188 - from) (stuffing 163)) ≡ 188 = omega (arith, stuffing_length from h) in
-    p ∙ ap₂ (λ (x : List ℕ) (k : ℕ). take from d ++ x ++ drop k d) (take_stuffing (188 - from) 163 (omega arith)) e
+-- the whole packet: the head and the addressing field, the check value behind them, and stuffing
+pub packet_put : (n : Notice) (f d d' : List ℕ) → length f ≤ 163 → 188 ≤ length d
+    → d' ≡ sealed_at (21 + length f) (put_mid 21 (21 + length f - 21) (head_of n (length f) ++ drop 21 d) f)
+    → put_mid (21 + length f + 4) (188 - (21 + length f + 4)) d' (stuffing (188 - (21 + length f + 4))) ≡ mip_of n f ++ drop 188 d
+unfolding mip_of fields_of head_of
+packet_put n f d d' short room e =
+    let a = length f in
+    let k = 188 - (21 + a + 4) in
+    let fields = fields_of n f in
+    let body : d' ≡ sealed fields ++ drop (21 + a + 4) d =
+    e ∙ ap (sealed_at (21 + a)) (behind (head_of n a) f d 21 (21 + a - 21) (21 + a) refl (omega arith) (omega arith))
+    ∙ sealed_behind fields d (21 + a) (fields_length n f) (omega arith) in
+    ap (λ (x : List ℕ). put_mid (21 + a + 4) k x (stuffing k)) body
+    ∙ behind (sealed fields) (stuffing k) d (21 + a + 4) k 188 (omega (arith, sealed_length fields, fields_length n f)) (length_stuffing k) (omega arith)
+    ∙ ap (λ (j : ℕ). (sealed fields ++ stuffing j) ++ drop 188 d) (omega arith)
 
--- the whole packet
-pub packet_put : (n : Notice) (f d d₁ d₂ d₃ : List ℕ) → length f ≤ 163
-    → d₁ ≡ fields_of n f ++ drop (21 + length f) d
-    → d₂ ≡ sealed (take (21 + length f) d₁) ++ drop (21 + length f + 4) d₁
-    → d₃ ≡ take (21 + length f + 4) d₂ ++ stuffing (188 - (21 + length f + 4)) ++ drop 188 d₂
-    → d₃ ≡ mip_of n f ++ drop 188 d
-unfolding mip_of
-packet_put n f d d₁ d₂ d₃ h p₁ p₂ p₃ =
-    let e : ℕ = 21 + length f in
-    let front : take e d₁ ≡ fields_of n f = ap (take e) p₁ ∙ take_at (fields_of n f) (drop e d) e (fields_length n f) in
-    let q₂ : d₂ ≡ sealed (fields_of n f) ++ drop (e + 4) d =
-    p₂
-    ∙ ap (λ (x : List ℕ). take e d₁ ++ bytes32 (register x) ++ drop (e + 4) d₁) front
-    ∙ ap (λ (x : List ℕ). take e x ++ bytes32 (register (fields_of n f)) ++ drop (e + 4) x) p₁
-    ∙ put_behind (fields_of n f) (bytes32 (register (fields_of n f))) d e (fields_length n f) in
-    let k : 188 - (e + 4) ≡ 163 - length f = omega arith in
-    let m : e + 4 + length (stuffing (163 - length f)) ≡ 188 = omega (arith, length_stuffing (163 - length f)) in
-    let l : length (sealed (fields_of n f)) ≡ e + 4 = sealed_length (fields_of n f) ∙ ap (λ (x : ℕ). x + 4) (fields_length n f) in
-    p₃
-    ∙ ap₂ (λ (x : List ℕ) (j : ℕ). take (e + 4) x ++ stuffing j ++ drop 188 x) q₂ k
-    ∙ ap (λ (j : ℕ). take (e + 4) (sealed (fields_of n f) ++ drop (e + 4) d) ++ stuffing (163 - length f) ++ drop j (sealed (fields_of n f) ++ drop (e + 4) d)) (sym m)
-    ∙ put_behind (sealed (fields_of n f)) (stuffing (163 - length f)) d (e + 4) l
-    ∙ ap (λ (j : ℕ). sealed (fields_of n f) ++ stuffing (163 - length f) ++ drop j d) m
+-- an accepted write gives it
+pub written : (n : Notice) (f d d' : List ℕ) → ◌≡◌ {A = Reply (Unit {0})} (given (tt {0})) (reply (write_refusal (length d) n f) (tt {0})) → d' ≡ mip_of n f ++ drop 188 d
+    → record { reply = given tt; bytes = d' } ≡ write_of d n f
+unfolding write_of
+written n f d d' r e =
+    let z : write_refusal (length d) n f ≡ 0 = (given_zero _ (tt {0}) (tt {0}) (sym r)).0 in
+    ap (λ (x : List ℕ). record { reply = given tt; bytes = x }) e ∙ sym (given_output _ d _ z)
 
 -- what a write that no number refuses has passed
 pub judged : (space : ℕ) (n : Notice) (f : List ℕ) → write_refusal space n f ≡ 0

@@ -1,14 +1,13 @@
 -- What the writer writes and answers: document 01's numbers 18, 19, 8, 10, 11, the first that applies, or the packet of TS 101 191 table 1.
-use Rattle.std.specs.Prelude.{ℕ, ◌+◌, ◌-◌, cond, List, [], ◌∷◌, ◌++◌, length, drop, replicate, leb}
-use Rattle.wire.specs.Reply.{refused, given, must, Output, filled}
+use Rattle.std.specs.Prelude.{ℕ, ◌+◌, ◌-◌, cond, List, [], ◌∷◌, ◌++◌, length, drop, replicate, leb, Result}
+use Rattle.wire.specs.Reply.{must, Output, filled, reply_of}
 use Rattle.wire.specs.Standards.{packet_length, sync_byte, mip_pid, section_beside, longest_addressing, dvb_second}
 use Rattle.wire.specs.BigEndian.{bytes16, bytes24, bytes32}
 use Rattle.check_value.specs.Register.{sealed}
 use Rattle.times.specs.Release.{in_second}
 use Rattle.addressing.specs.Entries.{well_formed}
 use Rattle.notice.specs.declared.Notice.{Notice}
-use Rattle.writer.specs.declared.WriteOutcome.{WriteOutcome}
-use Rattle.writer.specs.declared.WriteOutcome.TheVariants.{Done, Refused}
+use Rattle.wire.specs.declared.Refusal.{Refusal}
 
 -- 18, 19, 8, 10, 11, for an output of this length
 unfoldable pub write_refusal : ℕ → Notice → List ℕ → ℕ
@@ -54,6 +53,5 @@ unfoldable pub write_of : List ℕ → Notice → List ℕ → Output
 write_of out n field = filled (write_refusal (length out) n field) out (mip_of n field ++ drop packet_length out)
 
 -- an answer, and the bytes that it leaves
-abbrev pub output_of : WriteOutcome → List ℕ → Output
-output_of Done out = record { reply = given tt; bytes = out }
-output_of (Refused n) out = record { reply = refused n; bytes = out }
+abbrev pub output_of : Result (Unit {0}) Refusal → List ℕ → Output
+output_of r out = record { reply = reply_of r; bytes = out }

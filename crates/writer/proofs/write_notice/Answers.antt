@@ -1,33 +1,20 @@
--- What is written was accepted, so it fits, and the pieces put one behind the other are the packet.
-use Rattle.std.proofs.Common.{◌≡◌, ◌∙◌, sym, ap, arith, ◌++◌, length, drop, List, ℕ}
-use Rattle.wire.specs.Reply.{given}
-use Rattle.wire.specs.Standards.{packet_length}
-use Rattle.wire.proofs.Tests.{given_output}
-use Rattle.check_value.proofs.Sealing.{seal_fits}
-use Rattle.writer.specs.Writable.{Writable}
-use Rattle.writer.specs.Writer.{write_refusal, mip_of, write_of}
-use Rattle.writer.proofs.Writing.{write_fits, packet_put}
-use Rattle.notice.specs.declared.Notice.{Notice}
+-- What is written was accepted, and the pieces put one behind the other are the packet.
+use Rattle.std.proofs.Common.{◌≡◌, ◌∙◌, ap, arith, length, take, drop, ℕ, ◌-◌, ◌+◌}
+use lib.Seq.{length-take-le}
+use lib.ListN.{length-drop, replicate}
+use Rattle.writer.specs.Writer.{write_of, stuffing}
+use borrow.Rule.Slice.PartMut.{put_mid}
+use Rattle.writer.proofs.Writing.{packet_put, written}
 use Rattle.writer.proofs.write_notice.Goals as goal
-
-pub put_fields-requires : goal.put_fields-requires
-put_fields-requires c = write_fits _ _ _ (omega arith)
-
-pub put_stuffing-requires : goal.put_stuffing-requires
-put_stuffing-requires c =
-    let w : Writable (length c.args.out.now) c.args.n c.args.field.now = write_fits _ _ _ (omega arith) in
-    omega (arith, c.put_fields.auto.out, c.seal.auto.out)
-
-done : (out d : List ℕ) (n : Notice) (f : List ℕ) → write_refusal (length out) n f ≡ 0 → d ≡ mip_of n f ++ drop packet_length out
-    → record { reply = given tt; bytes = d } ≡ write_of out n f
-unfolding write_of
-done out d n f e p = ap (λ (x : List ℕ). record { reply = given tt; bytes = x }) p ∙ sym (given_output _ _ _ e)
 
 pub returns : goal.returns
 returns c =
     let a = c.args in
-    let e : write_refusal (length a.out.now) a.n a.field.now ≡ 0 = omega arith in
-    let w : Writable (length a.out.now) a.n a.field.now = write_fits _ _ _ e in
-    done a.out.now _ a.n a.field.now e
-    (packet_put a.n a.field.now a.out.now c.put_fields.new.out c.seal.new.out c.put_stuffing.new.out w.short
-    c.put_fields.ensures (c.seal.ensures ∙ seal_fits _ _ (omega (arith, c.put_fields.auto.out))) c.put_stuffing.ensures)
+    let w = c.in_ok-check_write.ensures in
+    let from : ℕ = 21 + length a.field.now + 4 in
+    let rest : length (take (188 - from) (drop from c.seal.new.out)) ≡ 188 - from = length-take-le _ _ (omega (arith, length-drop from c.seal.new.out, w.fits.room, c.seal.auto.out)) in
+    let filled : c.fill.new.self ≡ stuffing (188 - from) = c.fill.ensures.after (λ y e. e) ∙ ap (λ (k : ℕ). replicate {A = ℕ} k 255) rest in
+    written a.n a.field.now a.out.now _ w.numbers
+    (ap (put_mid from (188 - from) c.seal.new.out) filled
+    ∙ packet_put a.n a.field.now a.out.now c.seal.new.out w.fits.short w.fits.room
+    (rw (c.copy_from_slice.ensures.after, c.head_of.ensures, c.copy_from_slice-2.ensures.after) at c.seal.ensures))
