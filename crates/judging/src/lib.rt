@@ -7,7 +7,7 @@ ghost use Rattle.judging.specs.Judgement.{judgement_of, taken_of};
 ghost use Rattle.judging.specs.Judge.{arrival_refusal, carries, taken_refusal, limited, mip_taken, judge_mip, judge_arrived, judge_given};
 
 use addressing::Settings;
-use state::Board;
+use state::{Board, UNKNOWN_INDEX};
 use times::Periods;
 use wire::Refusal;
 
@@ -31,8 +31,6 @@ pub struct Taken {
     pub sts: u32,
     pub md: u32,
 }
-
-const UNKNOWN: u8 = 255;
 
 // 1, 2 and 3, of any packet with its arrival tick.
 #[tactic(auto, unfolding(crate::specs::Judge::arrival_refusal))]
@@ -63,7 +61,7 @@ fn carries(profile: u8, p: &[u8]) -> bool
 fn index_allowed(index: u8) -> bool
     ensures { result ≡ (eqb index 255 || ltb index 20) }
 {
-    index == UNKNOWN || index < 20
+    index == UNKNOWN_INDEX || index < 20
 }
 
 // 11, 12 and 13, of a notice that is otherwise right.
@@ -104,7 +102,7 @@ fn mip_taken(p: &[u8], settings: Settings) -> Taken
 {
     Taken {
         pointer: notice::pointer(p),
-        index: UNKNOWN,
+        index: UNKNOWN_INDEX,
         settings,
         sts: notice::synchronization_time_stamp(p).0,
         md: notice::maximum_delay(p).0,

@@ -2,16 +2,19 @@
 #![tactic(auto)]
 
 ghost use Rattle.std.specs.Prelude.{◌≡◌};
-ghost use Rattle.wire.specs.Reply.{refused, number_of};
-ghost use Rattle.slave.specs.Answer.{option_of, notice_of, mark_of, report_of, outcome_of};
-ghost use Rattle.replies.specs.Flat.{is_some, value_of, notice_kind, notice_number, no_times, flat_mark, flat_report, flat_reply};
+ghost use Rattle.wire.specs.Reply.{refused, number_of, reply_of};
+ghost use Rattle.times.specs.Answer.{times_in};
+ghost use Rattle.slave.specs.Answer.{notice_of, mark_of, report_of, answer_of};
+ghost use Rattle.replies.specs.Flat.{notice_kind, notice_number, no_times, flat_times, flat_mark, flat_report, flat_reply};
 
-use slave::{Counted, MarkPart, Maybe, NoticePart, Outcome};
+use slave::{Counted, MarkPart, NoticePart};
 use state::Slave;
+use times::{Times, Unit};
+use wire::Refusal;
 
 // What a mark is released with, in the unit of its profile.
 #[repr(C)]
-#[derive(Clone, Copy)]
+#[derive(Clone, Copy, Default)]
 pub struct MarkTimes {
     pub reference: u32,
     pub emission: u32,
@@ -22,7 +25,7 @@ pub struct MarkTimes {
 // A mark: 0 none, 1 untimed, 2 late, 3 released in profile 0 with its times in steps of 100 ns, 4 released in profile 1 with its times in bit periods.
 // The number is that of a late mark, else 0. In C the times are a union with a member for each unit.
 #[repr(C)]
-#[derive(Clone, Copy)]
+#[derive(Clone, Copy, Default)]
 pub struct Mark {
     pub kind: u8,
     pub number: u8,
@@ -31,7 +34,7 @@ pub struct Mark {
 
 // The reply to a packet or a numbers notice. The number refuses the whole call, or is 0. The notice's part: 0 none, 1 taken, 2 slip, 3 ignored with its number.
 #[repr(C)]
-#[derive(Clone, Copy)]
+#[derive(Clone, Copy, Default)]
 pub struct PacketReply {
     pub number: u8,
     pub has_label: bool,
@@ -52,24 +55,56 @@ pub struct Step {
     pub reply: PacketReply,
 }
 
-fn is_just(m: Maybe) -> bool
-    ensures { result ≡ is_some (option_of m) }
-{
-    match m {
-        Maybe::Nothing => false,
-        Maybe::Just(_) => true,
+impl<T: Unit> From<Times<T>> for MarkTimes {
+    ghost from_gives = { λ t r. r ≡ flat_times (times_in T.count t) };
+
+    fn from(t: Times<T>) -> MarkTimes {
+        MarkTimes {
+            reference: t.reference.count(),
+            emission: t.emission.count(),
+            modulation: t.modulation.count(),
+            wait: t.wait,
+        }
     }
 }
 
-fn value_of(m: Maybe) -> u16
-    ensures { result ≡ value_of (option_of m) }
+// A mark without times.
+fn no_times(kind: u8, number: u8) -> Mark
+    ensures { result ≡ record { kind = kind; number = number; times = no_times } }
 {
-    match m {
-        Maybe::Nothing => 0,
-        Maybe::Just(x) => x,
+    Mark {
+        kind,
+        number,
+        times: MarkTimes::default(),
     }
 }
 
+// A mark that is released.
+fn released(kind: u8, times: MarkTimes) -> Mark
+    ensures { result ≡ record { kind = kind; number = 0; times = times } }
+{
+    Mark {
+        kind,
+        number: 0,
+        times,
+    }
+}
+
+impl From<MarkPart> for Mark {
+    ghost from_gives = { λ m r. r ≡ flat_mark (mark_of m) };
+
+    fn from(m: MarkPart) -> Mark {
+        match m {
+            MarkPart::Unmarked => no_times(0, 0),
+            MarkPart::Untimed => no_times(1, 0),
+            MarkPart::Dvb(None) | MarkPart::A110(None) => no_times(2, Refusal::Late.number()),
+            MarkPart::Dvb(Some(t)) => released(3, t.into()),
+            MarkPart::A110(Some(t)) => released(4, t.into()),
+        }
+    }
+}
+
+// The notice's part as C has it: its kind, and the number that ignores it.
 fn notice_kind(n: NoticePart) -> u8
     ensures { result ≡ notice_kind (notice_of n) }
 {
@@ -85,88 +120,27 @@ fn notice_number(n: NoticePart) -> u8
     ensures { result ≡ notice_number (notice_of n) }
 {
     match n {
-        NoticePart::Absent => 0,
-        NoticePart::Taken => 0,
-        NoticePart::Slip => 0,
-        NoticePart::Ignored(k) => k,
-    }
-}
-
-// A mark without times.
-fn no_times(kind: u8, number: u8) -> Mark
-    ensures { result ≡ record { kind = kind; number = number; times = no_times } }
-{
-    Mark {
-        kind: kind,
-        number: number,
-        times: MarkTimes {
-            reference: 0,
-            emission: 0,
-            modulation: 0,
-            wait: 0,
-        },
-    }
-}
-
-fn mark_of(m: MarkPart) -> Mark
-    ensures { result ≡ flat_mark (mark_of m) }
-{
-    match m {
-        MarkPart::Unmarked => no_times(0, 0),
-        MarkPart::Untimed => no_times(1, 0),
-        MarkPart::DvbLate => no_times(2, 14),
-        MarkPart::A110Late => no_times(2, 14),
-        MarkPart::Dvb(t) => {
-            let reference = t.reference;
-            let emission = t.emission;
-            let modulation = t.modulation;
-            Mark {
-                kind: 3,
-                number: 0,
-                times: MarkTimes {
-                    reference: reference.0,
-                    emission: emission.0,
-                    modulation: modulation.0,
-                    wait: t.wait,
-                },
-            }
-        }
-        MarkPart::A110(t) => {
-            let reference = t.reference;
-            let emission = t.emission;
-            let modulation = t.modulation;
-            Mark {
-                kind: 4,
-                number: 0,
-                times: MarkTimes {
-                    reference: reference.0,
-                    emission: emission.0,
-                    modulation: modulation.0,
-                    wait: t.wait,
-                },
-            }
-        }
+        NoticePart::Ignored(why) => why.number(),
+        _ => 0,
     }
 }
 
 // The report on a counted packet.
-pub fn report_of(c: Counted) -> PacketReply
-    ensures { result ≡ flat_report (report_of c) }
-{
-    let label = c.label;
-    let notice = c.notice;
-    let mark = c.mark;
-    let place = c.place;
-    PacketReply {
-        number: 0,
-        has_label: is_just(label),
-        label: value_of(label),
-        notice: notice_kind(notice),
-        ignored: notice_number(notice),
-        turn: c.turn,
-        has_place: is_just(place),
-        place: value_of(place),
-        mark: mark_of(mark),
+impl From<Counted> for PacketReply {
+    ghost from_gives = { λ c r. r ≡ flat_report (report_of c) };
+
+    fn from(c: Counted) -> PacketReply {
+        PacketReply {
+            number: 0,
+            has_label: c.label.is_some(),
+            label: c.label.unwrap_or(0),
+            notice: notice_kind(c.notice),
+            ignored: notice_number(c.notice),
+            turn: c.turn,
+            has_place: c.place.is_some(),
+            place: c.place.unwrap_or(0),
+            mark: c.mark.into(),
+        }
     }
 }
 
@@ -176,23 +150,28 @@ pub fn number_alone(k: u8) -> PacketReply
 {
     PacketReply {
         number: k,
-        has_label: false,
-        label: 0,
-        notice: 0,
-        ignored: 0,
-        turn: false,
-        has_place: false,
-        place: 0,
-        mark: no_times(0, 0),
+        ..PacketReply::default()
+    }
+}
+
+// The reply to a packet or a numbers notice.
+impl From<Result<Counted, Refusal>> for PacketReply {
+    ghost from_gives = { λ a r. r ≡ flat_reply (answer_of a) };
+
+    fn from(answer: Result<Counted, Refusal>) -> PacketReply {
+        match answer {
+            Ok(c) => c.into(),
+            Err(r) => number_alone(r.number()),
+        }
     }
 }
 
 // The number of an outcome, 0 where nothing refuses.
-pub fn outcome_number(o: Outcome) -> u8
-    ensures { result ≡ number_of (outcome_of o) }
+pub fn outcome_number(o: Result<(), Refusal>) -> u8
+    ensures { result ≡ number_of (reply_of o) }
 {
     match o {
-        Outcome::Done => 0,
-        Outcome::Refused(k) => k,
+        Ok(()) => 0,
+        Err(r) => r.number(),
     }
 }

@@ -4,7 +4,7 @@
 ghost use Rattle.std.specs.Prelude.{◌≡◌, Ok};
 ghost use Rattle.wire.specs.Reply.{refused};
 ghost use Rattle.state.specs.Slave.{cold};
-ghost use Rattle.slave.specs.Answer.{left, shifted_of};
+ghost use Rattle.slave.specs.Answer.{left, answer_of, shifted_of};
 ghost use Rattle.slave.specs.Calls.{start_of, packet_of, numbers_of, gap_of};
 ghost use Rattle.judging.specs.Judge.{judge_arrived, judge_given};
 ghost use Rattle.slave.specs.Step.{step_of};
@@ -160,6 +160,54 @@ pub fn numbers_way(s: Slave, p: &[u8], tick: u32, x: Numbers) -> Result<Way, Ref
         return Err(Refusal::OtherProfile);
     }
     Ok(given(r, p, x))
+}
+
+// What a call with a packet does to a slave, stored in it, and its reply.
+#[inline(always)]
+pub fn apply(s: &mut Slave, way: Result<Way, Refusal>) -> Result<Counted, Refusal>
+    ensures { left s.new (answer_of result) ≡ way_of s.old way }
+{
+    match way {
+        Ok(Way::Hunts) => Ok(steps::unheard(NoticePart::Absent)),
+        Ok(Way::Short(q)) => {
+            s.count.next = q.next;
+            Ok(q.report)
+        }
+        Ok(Way::Marked(m)) => {
+            s.count = m.count;
+            s.waiting = state::nothing_waiting();
+            Ok(m.report)
+        }
+        Ok(Way::Moved(m)) => {
+            s.settings = m.settings;
+            s.count = m.count;
+            s.waiting = m.waiting;
+            Ok(m.report)
+        }
+        Err(Refusal::StartSettings) => {
+            *s = state::cold_slave();
+            Err(Refusal::StartSettings)
+        }
+        Err(r) => Err(r),
+    }
+}
+
+// A packet with its arrival tick.
+#[inline(always)]
+pub fn packet(s: &mut Slave, p: &[u8], tick: u32) -> Result<Counted, Refusal>
+    ensures { left s.new (answer_of result) ≡ packet_of s.old p.now tick }
+{
+    let way = way_of(*s, p, tick);
+    apply(s, way)
+}
+
+// A packet that comes with a notice in numbers.
+#[inline(always)]
+pub fn numbers_notice(s: &mut Slave, p: &[u8], tick: u32, x: Numbers) -> Result<Counted, Refusal>
+    ensures { left s.new (answer_of result) ≡ numbers_of s.old p.now tick x }
+{
+    let way = numbers_way(*s, p, tick, x);
+    apply(s, way)
 }
 
 // k packets are known to be missing.

@@ -45,7 +45,7 @@ impl Arrival {
     }
 
     // The emission time.
-    #[tactic(auto, unfolding(times::specs::Release::delay_fits))]
+    #[tactic(auto, unfolding(times::specs::Release::delay_fits, times::specs::Whole::within))]
     fn emission(self) -> u32
         ensures { result ≡ emission self.u self.sts self.md self.od }
     {

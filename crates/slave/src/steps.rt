@@ -9,19 +9,16 @@ ghost use Rattle.slave.specs.Ways.{short_of, marked_of, moved_of};
 use crate::ready::Ready;
 use crate::{Counted, MarkPart, Marked, Moved, NoticePart, Short};
 use judging::Taken;
-use state::{Count, Slave, Waiting};
+use state::{Count, Slave, UNKNOWN_INDEX, Waiting};
 use wire::Refusal;
-
-// The next mark's index where it is not known: 255 is C's, so that no Option holds it.
-const UNKNOWN: u8 = 255;
 
 // A known index after some marks.
 fn raised(index: u8, marks: u32) -> u8
     requires { marks ≤ 65536 }
     ensures { result ≡ raised index marks }
 {
-    if index == UNKNOWN {
-        return UNKNOWN;
+    if index == UNKNOWN_INDEX {
+        return UNKNOWN_INDEX;
     }
     ((u32::from(index) + marks) % 20) as u8
 }
@@ -57,7 +54,7 @@ fn next_label(n: u16, label: u16) -> u16
 fn place_of(index: u8, label: u16) -> Option<u16>
     ensures { option_of result ≡ place_of index label }
 {
-    if index == UNKNOWN {
+    if index == UNKNOWN_INDEX {
         return None;
     }
     let mark = (u16::from(index) + 19) % 20;
@@ -144,14 +141,14 @@ fn index_before(c: Count, label: u16) -> u8
     if agrees(c, label) {
         return count_at(c).index;
     }
-    UNKNOWN
+    UNKNOWN_INDEX
 }
 
 // An unknown index keeps what is there, any other enters.
 fn index_after(before: u8, index: u8) -> u8
     ensures { result ≡ index_after before index }
 {
-    if index == UNKNOWN {
+    if index == UNKNOWN_INDEX {
         return before;
     }
     index
@@ -161,7 +158,7 @@ fn index_after(before: u8, index: u8) -> u8
 fn turned(before: u8, index: u8) -> bool
     ensures { result ≡ turns before index }
 {
-    index != UNKNOWN && before != UNKNOWN && before != index
+    index != UNKNOWN_INDEX && before != UNKNOWN_INDEX && before != index
 }
 
 // Taken, or a slip where a locked slave counted otherwise.

@@ -1,6 +1,6 @@
 -- A sound slave that is not of profile 1 is of profile 0.
-use Rattle.std.proofs.Common.{◌≡◌, ◌∙◌, ap}
-use Rattle.state.proofs.Sound.{dvb_profile, settings_kept_lem}
+use Rattle.std.proofs.Common.{◌≡◌, ◌∙◌, ap, arith}
+use Rattle.state.proofs.Sound.{profile_small, settings_kept_lem}
 use Rattle.slave.specs.Answer.{due}
 use Rattle.slave.specs.Step.{release_at}
 use Rattle.slave.proofs.ready.Ready.release.Goals as goal
@@ -9,5 +9,5 @@ pub returns-else-self-eq1 : goal.returns-else-self-eq1
 unfolding release_at
 returns-else-self-eq1 c =
     let s = c.args.self.slave in
-    let zero : s.board.profile ≡ 0 = dvb_profile s.board (settings_kept_lem s c.args.self.is_sound) c.if-self-eq1.false in
+    let zero : s.board.profile ≡ 0 = omega (arith, profile_small s.board (settings_kept_lem s c.args.self.is_sound), c.if-self-eq1.false) in
     ap (due 0) (c.due-else-self-eq1.ensures ∙ c.arrival-arrival.ensures) ∙ rw zero
