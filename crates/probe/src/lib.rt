@@ -15,14 +15,13 @@ ghost use Rattle.wire.specs.Reply.{refused};
 ghost use Rattle.replies.specs.Flat.{flat_reply, flat_left, flat_step};
 ghost use Rattle.probe.specs.Flat.{flat_settings, flat_label};
 
-use addressing::{Settings, Walked};
-use cadence::LabelAnswer;
+use addressing::Settings;
 use replies::Step;
 use state::Slave;
-use times::{Periods, Steps};
+use times::{Periods, Steps, Unit};
 
 #[repr(C)]
-#[derive(Clone, Copy)]
+#[derive(Clone, Copy, Default)]
 pub struct ProbeSettings {
     pub number: u8,
     pub od: i16,
@@ -55,22 +54,20 @@ pub extern "C" fn probe_settings(
     ensures { result ≡ flat_settings (settings_of field.now site (record { od = od; frequency = frequency; power = power })) }
 {
     let before = Settings {
-        od: od,
-        frequency: frequency,
-        power: power,
+        od,
+        power,
+        frequency,
     };
     match addressing::settings_of(field, site, before) {
-        Walked::Set(t) => ProbeSettings {
+        Ok(t) => ProbeSettings {
             number: 0,
             od: t.od,
             frequency: t.frequency,
             power: t.power,
         },
-        Walked::Malformed => ProbeSettings {
-            number: 10,
-            od: 0,
-            frequency: 0,
-            power: 0,
+        Err(r) => ProbeSettings {
+            number: r.number(),
+            ..ProbeSettings::default()
         },
     }
 }
@@ -79,14 +76,14 @@ pub extern "C" fn probe_settings(
 pub extern "C" fn probe_dvb_delay_fits(md: u32, od: i16) -> bool
     ensures { result ≡ delay_fits dvb_second md od }
 {
-    times::dvb_delay_fits(Steps(md), od)
+    Steps(md).delay_fits(od, Steps(0))
 }
 
 #[unsafe(no_mangle)]
 pub extern "C" fn probe_a110_delay_fits(md: u32, od: i16, tad: u32) -> bool
     ensures { result ≡ delay_fits_a110 a110_second md od tad }
 {
-    times::a110_delay_fits(Periods(md), od, Periods(tad))
+    Periods(md).delay_fits(od, Periods(tad))
 }
 
 #[unsafe(no_mangle)]
@@ -101,12 +98,9 @@ pub extern "C" fn probe_label(n: u16, pointer: u16) -> ProbeLabel
     ensures { result ≡ flat_label (in_cadence n pointer (label_of n pointer)) }
 {
     match cadence::label_of(n, pointer) {
-        LabelAnswer::Given(x) => ProbeLabel {
-            number: 0,
-            value: x,
-        },
-        LabelAnswer::Refused(k) => ProbeLabel {
-            number: k,
+        Ok(value) => ProbeLabel { number: 0, value },
+        Err(r) => ProbeLabel {
+            number: r.number(),
             value: 0,
         },
     }

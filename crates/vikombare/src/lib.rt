@@ -14,12 +14,11 @@ ghost use Rattle.replies.specs.Flat.{flat_left, flat_step};
 ghost use Rattle.vikombare.specs.Flat.{tick_on, flat_change, dvb_board, a110_board, filled_with, flat_output, flat_notice};
 
 use judging::Numbers;
-use notice::{Notice, Reading};
+use notice::Notice;
 use replies::{PacketReply, Step};
-use slave::{Shifted, Way};
+use slave::Shifted;
 use state::{Board, Slave};
 use times::{Periods, Steps};
-use writer::WriteOutcome;
 
 // An arrival tick with its clock: profile 0 counts steps of 100 ns, profile 1 bit periods.
 #[repr(C)]
@@ -39,7 +38,7 @@ pub struct Change {
 
 // A notice that was read: its fields, and the length of its addressing field, which begins at byte 21 of the packet.
 #[repr(C)]
-#[derive(Clone, Copy)]
+#[derive(Clone, Copy, Default)]
 pub struct NoticeRead {
     pub number: u8,
     pub notice: Notice,
@@ -50,11 +49,9 @@ pub struct NoticeRead {
 fn change_of(r: Shifted) -> Change
     ensures { result ≡ flat_change (shifted_of r) }
 {
-    let s = r.slave;
-    let o = r.outcome;
     Change {
-        slave: s,
-        number: replies::outcome_number(o),
+        slave: r.slave,
+        number: replies::outcome_number(r.outcome),
     }
 }
 
@@ -64,8 +61,8 @@ fn dvb_board(n: u16, site: u16, tad: Steps) -> Board
 {
     Board {
         profile: 0,
-        n: n,
-        site: site,
+        n,
+        site,
         tad: tad.0,
     }
 }
@@ -75,8 +72,8 @@ fn a110_board(n: u16, site: u16, tad: Periods) -> Board
 {
     Board {
         profile: 1,
-        n: n,
-        site: site,
+        n,
+        site,
         tad: tad.0,
     }
 }
@@ -102,9 +99,9 @@ fn tick_on(profile: u8, tick: Tick) -> u32
     ensures { result ≡ tick_on profile tick }
 {
     if profile == tick.profile {
-        return tick.count;
+        tick.count
     } else {
-        return 4294967295;
+        u32::MAX
     }
 }
 
@@ -114,33 +111,7 @@ pub extern "C" fn vikombare_packet(s: &mut Slave, p: &[u8], tick: Tick) -> Packe
     ensures { flat_left s.new result ≡ flat_step (packet_of s.old p.now (tick_on s.old.board.profile tick)) }
 {
     let t = tick_on(s.board.profile, tick);
-    match slave::way_of(*s, p, t) {
-        Way::Short(q) => {
-            s.count.next = q.next;
-            return replies::report_of(q.report);
-        }
-        Way::Hunts => {
-            return replies::number_alone(0);
-        }
-        Way::Marked(m) => {
-            s.count = m.count;
-            s.waiting = state::nothing_waiting();
-            return replies::report_of(m.report);
-        }
-        Way::Moved(m) => {
-            s.settings = m.settings;
-            s.count = m.count;
-            s.waiting = m.waiting;
-            return replies::report_of(m.report);
-        }
-        Way::Refused(k) => {
-            return replies::number_alone(k);
-        }
-        Way::Cold => {
-            *s = state::cold_slave();
-            return replies::number_alone(15);
-        }
-    }
+    slave::packet(s, p, t).into()
 }
 
 // A packet that comes with a notice in numbers, profile 1. The slave is handed back.
@@ -199,26 +170,14 @@ pub extern "C" fn vikombare_read(p: &[u8]) -> NoticeRead
     ensures { result ≡ flat_notice (read_of p.now) (length (addressing_field p.now)) }
 {
     match notice::read_notice(p) {
-        Reading::Accepted(n) => {
-            let part = notice::addressing_part(p);
-            NoticeRead {
-                number: 0,
-                notice: n,
-                addressing: part.len(),
-            }
-        }
-        Reading::Refused(k) => NoticeRead {
-            number: k,
-            notice: Notice {
-                continuity: 0,
-                pointer: 0,
-                periodic: false,
-                reserved: 0,
-                sts: Steps(0),
-                md: Steps(0),
-                tps: 0,
-            },
-            addressing: 0,
+        Ok(notice) => NoticeRead {
+            number: 0,
+            notice,
+            addressing: notice::addressing_part(p).len(),
+        },
+        Err(r) => NoticeRead {
+            number: r.number(),
+            ..NoticeRead::default()
         },
     }
 }
@@ -228,8 +187,5 @@ pub extern "C" fn vikombare_read(p: &[u8]) -> NoticeRead
 pub extern "C" fn vikombare_write(out: &mut [u8], n: Notice, field: &[u8]) -> u8
     ensures { filled_with result out.new ≡ flat_output (write_of out.old n field.now) }
 {
-    match writer::write_notice(out, n, field) {
-        WriteOutcome::Done => 0,
-        WriteOutcome::Refused(k) => k,
-    }
+    replies::outcome_number(writer::write_notice(out, n, field))
 }
