@@ -1,60 +1,45 @@
--- What some nibbles leave of a register of zeros is the sum of what each of them leaves, and what a nibble leaves the sum of what its bits leave.
-use mathlib.Core.Path.{◌≡◌, sym, ap, ap₂, ◌∙◌}
-use Prim.Native.Nat.{ℕ, zero, suc, ◌+◌, ◌*◌, ◌/◌, ◌%◌, ◌^◌, ◌≤◌}
-use native.Mathlib.Nat.{mod-mod, zero-mul}
+-- What some nibbles leave of a register of zeros is the sum of what each of them leaves; and the table of what each leaves.
+use mathlib.Core.Path.{◌≡◌, refl, sym, ap, ◌∙◌}
+use mathlib.Core.List.{List, map}
+use Prim.Native.Nat.{ℕ, ◌+◌, ◌*◌, ◌/◌, ◌%◌, ◌^◌, ◌<◌}
+use native.Mathlib.Nat.{mod-mod}
 use native.Mathlib.Omega.{arith}
 use lib.Bits.{bit_xor, xor_comm}
+use lib.ListN.{get_or}
+use Rattle.std.specs.List.{range_with_len}
+use Rattle.std.proofs.lemmas.List.FromFn.{get_or-map-range_with_len}
 use Rattle.check_value.specs.Register.{bit_in, bits_in}
-use Rattle.check_value.specs.Nibble.{left_of}
-use Rattle.check_value.proofs.Bits.{bits_linear, bits_apart, bits_low, bits_split, zeros_low}
+use Rattle.check_value.specs.declared.TheConstants.{LEFT}
+use Rattle.check_value.proofs.Bits.{bits_apart, bits_low, bits_split}
 
-infixl 70 ◌⊕◌
--- equal parts have equal sums
-pub ◌⊕◌ : {a b c d : ℕ} → a ≡ b → c ≡ d → bit_xor a c ≡ bit_xor b d
-◌⊕◌ e f = ap₂ bit_xor e f
+-- what the nibble v leaves of a register of zeros, once m bits of zero have followed it
+unfoldable pub left_of : ℕ → ℕ → ℕ
+left_of v m = bits_in m (bits_in 4 0 v) 0
 
--- the sum of what the n + 1 lowest nibbles of w leave, each followed by those below it, of zeros
-unfoldable pub sum_of : ℕ → ℕ → ℕ
-sum_of zero w = left_of (w % 16) 0
-sum_of (suc n) w = bit_xor (sum_of n w) (left_of (w / 2 ^ (suc n * 4) % 16) (suc n * 4))
+-- the lowest nibble, and one more above the lowest k
+pub nibble_first : (w : ℕ) → left_of (w % 16) 0 ≡ bits_in 4 0 w
+unfolding left_of bits_in
+nibble_first w = bits_low 4 0 (w % 16) w (mod-mod w 16)
 
-pub nibbles : (n w : ℕ) → sum_of n w ≡ bits_in (suc n * 4) 0 w
-unfolding sum_of left_of bits_in
-nibbles zero w = bits_low 4 0 (w % 16) w (mod-mod w 16)
-nibbles (suc n) w =
-    let k : ℕ = suc n * 4 in
-    let v : ℕ = w / 2 ^ k % 16 in
-    let e : 4 + k ≡ suc (suc n) * 4 = omega arith in
-    ap (λ (y : ℕ). bit_xor y (left_of v k)) (nibbles n w)
-    ∙ xor_comm (bits_in k 0 w) (left_of v k)
-    ∙ sym (bits_apart k (bits_in 4 0 v) w)
-    ∙ bits_split 4 k 0 w
-    ∙ ap (λ (j : ℕ). bits_in j 0 w) e
-
--- the nibble 0 leaves nothing
-pub nothing : (m : ℕ) → 0 ≡ left_of 0 m
-unfolding left_of bits_in bit_in
-nothing m = sym (zeros_low m 0 (omega (arith, zero-mul (2 ^ m))) ∙ zero-mul (2 ^ m))
-
--- two nibbles' sum leaves the sum of what they leave
-pub sum : (m v w : ℕ) {p q : ℕ} → p ≡ left_of v m → q ≡ left_of w m → bit_xor p q ≡ left_of (bit_xor v w) m
+pub nibble_more : (k w : ℕ) → bit_xor (bits_in (4 * k) 0 w) (left_of (w / 2 ^ (4 * k) % 16) (4 * k)) ≡ bits_in (4 * (k + 1)) 0 w
 unfolding left_of
-sum m v w e f =
-    e ⊕ f ∙ sym (ap (λ (z : ℕ). bits_in m z 0) (bits_linear 4 0 0 v w) ∙ bits_linear m (bits_in 4 0 v) (bits_in 4 0 w) 0 0)
+nibble_more k w =
+    let m : ℕ = 4 * k in
+    let v : ℕ = w / 2 ^ m % 16 in
+    let e : 4 + m ≡ 4 * (k + 1) = omega arith in
+    xor_comm (bits_in m 0 w) (left_of v m) ∙ sym (bits_apart m (bits_in 4 0 v) w) ∙ bits_split 4 m 0 w ∙ ap (λ (j : ℕ). bits_in j 0 w) e
 
--- what the nibble k leaves, v leaves where it is k
-pub at : (m : ℕ) {v k r : ℕ} → v ≡ k → r ≡ left_of k m → r ≡ left_of v m
-at m e h = h ∙ ap (λ (x : ℕ). left_of x m) (sym e)
+-- the table's rows, and their entries
+row_of : ℕ → List ℕ
+row_of k = map (λ v. left_of v (4 * k)) (range_with_len 0 16)
 
--- what is known of x in the last arm of a match on 0, 1, .. k - 1
-unfoldable pub NoneOf : ℕ → ℕ → Type 0
-NoneOf zero x = Unit
-NoneOf (suc k) x = NoneOf k x × (x ≡ k → ⊥)
+table : LEFT ≡ map row_of (range_with_len 0 16)
+unfolding row_of left_of bits_in bit_in
+table = refl
 
-at_least : (k x : ℕ) → NoneOf k x → k ≤ x
-unfolding NoneOf
-at_least zero x h = omega arith
-at_least (suc k) x h = omega (arith, at_least k x h.0, h.1)
-
-pub last : (k x : ℕ) → x ≤ k → NoneOf k x → x ≡ k
-last k x l h = omega (arith, at_least k x h)
+pub entry : (k v : ℕ) (d : List ℕ) → k < 16 → v < 16 → get_or (get_or LEFT k d) v 0 ≡ left_of v (4 * k)
+unfolding row_of
+entry k v d hk hv =
+    ap (λ (rows : List (List ℕ)). get_or (get_or rows k d) v 0) table
+    ∙ ap (λ (row : List ℕ). get_or row v 0) (get_or-map-range_with_len row_of 0 16 k k d hk (omega arith))
+    ∙ get_or-map-range_with_len (λ v. left_of v (4 * k)) 0 16 v v 0 hv (omega arith)

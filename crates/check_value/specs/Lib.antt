@@ -1,3 +1,2 @@
--- The decoder of TS 101 191 annex A, and what the steps of its code promise each other.
+-- The decoder of TS 101 191 annex A.
 pub mod Register
-pub mod Nibble
