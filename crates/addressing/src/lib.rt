@@ -1,7 +1,7 @@
 // The individual addressing field of a notice, TS 101 191 clause 6: its form, and the settings that it gives a site.
 #![tactic(auto)]
 
-ghost use Rattle.std.specs.Prelude.{◌≡◌, cond};
+ghost use Rattle.std.specs.Prelude.{◌≡◌, ◌≤◌, true, cond};
 ghost use Rattle.addressing.specs.Functions.{no_settings, length_fits, set_by, functions_of};
 ghost use Rattle.addressing.specs.Entries.{addressed, settings_of, well_formed};
 ghost use Rattle.wire.specs.Reply.{reply_of};
@@ -30,19 +30,15 @@ pub fn no_settings() -> Settings
 
 // Whether a function of this tag may have this length.
 #[tactic(auto, unfolding(crate::specs::Functions::length_fits))]
-fn length_fits(tag: u8, n: usize) -> bool
-    ensures { result ≡ length_fits tag n }
+fn length_fits(tag: u8, n: u8) -> bool
+    ensures value { result ≡ length_fits tag n }
+    ensures at_least { result ≡ true → 2 ≤ n }
 {
-    if tag == 0 {
-        return n == 4;
+    match tag {
+        0 | 2 => n == 4,
+        1 => n == 5,
+        _ => n >= 2,
     }
-    if tag == 1 {
-        return n == 5;
-    }
-    if tag == 2 {
-        return n == 4;
-    }
-    n >= 2
 }
 
 // Whether an entry for id is addressed to the site.
@@ -50,10 +46,7 @@ fn length_fits(tag: u8, n: usize) -> bool
 fn addressed(site: u16, id: u16) -> bool
     ensures { result ≡ addressed site id }
 {
-    if id == 0 {
-        return true;
-    }
-    id == site
+    id == 0 || id == site
 }
 
 // The settings after one function, where it applies.
@@ -61,76 +54,68 @@ fn addressed(site: u16, id: u16) -> bool
 fn set_by(on: bool, tag: u8, body: &[u8], t: Settings) -> Settings
     ensures { result ≡ cond on (set_by tag body.now t) t }
 {
-    let mut after = t;
     if !on {
-        return after;
+        return t;
     }
-    if tag == 0 {
-        after.od = wire::signed_16(wire::number16_at(body, 0));
-        return after;
+    match tag {
+        0 => Settings {
+            od: wire::signed_16(wire::number16_at(body, 0)),
+            ..t
+        },
+        1 => Settings {
+            frequency: wire::signed_24(wire::number24_at(body, 0)),
+            ..t
+        },
+        2 => Settings {
+            power: wire::number16_at(body, 0),
+            ..t
+        },
+        _ => t,
     }
-    if tag == 1 {
-        after.frequency = wire::signed_24(wire::number24_at(body, 0));
-        return after;
-    }
-    if tag == 2 {
-        after.power = wire::number16_at(body, 0);
-        return after;
-    }
-    after
 }
 
 // The settings after the functions of a loop, where they apply.
-#[tactic(auto, unfolding(crate::specs::Functions::functions_of))]
-fn functions(on: bool, s: &[u8], before: Settings) -> Result<Settings, Refusal>
+#[tactic(auto, using(crate::proofs::Turns::functions_turns))]
+fn functions(on: bool, mut s: &[u8], before: Settings) -> Result<Settings, Refusal>
     ensures { reply_of result ≡ functions_of on s.now before }
 {
     let mut t = before;
-    let mut at = 0;
-    while at < s.len() {
-        let left = s.len() - at;
-        if left < 2 {
+    while let [tag, n, rest @ ..] = s {
+        if !length_fits(*tag, *n) {
             return Err(Refusal::AddressingForm);
         }
-        let tag = s[at];
-        let n = wire::byte_at(s, at + 1) as usize;
-        if !length_fits(tag, n) {
-            return Err(Refusal::AddressingForm);
-        }
-        if left < n {
-            return Err(Refusal::AddressingForm);
-        }
-        let start = at + 2;
-        let end = at + n;
-        t = set_by(on, tag, &s[start..end], t);
-        at = end;
+        let (body, after) = rest
+            .split_at_checked(*n as usize - 2)
+            .ok_or(Refusal::AddressingForm)?;
+        t = set_by(on, *tag, body, t);
+        s = after;
     }
-    Ok(t)
+    if s.is_empty() {
+        Ok(t)
+    } else {
+        Err(Refusal::AddressingForm)
+    }
 }
 
 // The settings of a site after an addressing field, later entries replacing earlier ones; a setting that no entry gives is kept.
-#[tactic(auto, unfolding(crate::specs::Entries::settings_of))]
-pub fn settings_of(s: &[u8], site: u16, before: Settings) -> Result<Settings, Refusal>
+#[tactic(auto, using(crate::proofs::Turns::entries_turns))]
+pub fn settings_of(mut s: &[u8], site: u16, before: Settings) -> Result<Settings, Refusal>
     ensures { reply_of result ≡ settings_of s.now site before }
 {
     let mut t = before;
-    let mut at = 0;
-    while at < s.len() {
-        let left = s.len() - at;
-        if left < 3 {
-            return Err(Refusal::AddressingForm);
-        }
-        let n = wire::byte_at(s, at + 2) as usize;
-        if left - 3 < n {
-            return Err(Refusal::AddressingForm);
-        }
-        let start = at + 3;
-        let end = start + n;
-        let on = addressed(site, wire::number16_at(s, at));
-        t = functions(on, &s[start..end], t)?;
-        at = end;
+    while let [high, low, n, rest @ ..] = s {
+        let (entry, after) = rest
+            .split_at_checked(*n as usize)
+            .ok_or(Refusal::AddressingForm)?;
+        let on = addressed(site, u16::from_be_bytes([*high, *low]));
+        t = functions(on, entry, t)?;
+        s = after;
     }
-    Ok(t)
+    if s.is_empty() {
+        Ok(t)
+    } else {
+        Err(Refusal::AddressingForm)
+    }
 }
 
 // Whether an addressing field has the form of clause 6.
@@ -138,5 +123,5 @@ pub fn settings_of(s: &[u8], site: u16, before: Settings) -> Result<Settings, Re
 pub fn well_formed(s: &[u8]) -> bool
     ensures { result ≡ well_formed s.now }
 {
-    settings_of(s, 0, no_settings()).is_ok()
+    settings_of(s, 0, Settings::default()).is_ok()
 }
