@@ -6,7 +6,7 @@ use Prim.Native.Nat.{ℕ, zero, suc, ◌-◌, ◌≤◌, ◌<◌}
 use native.Mathlib.Omega.{arith}
 use lib.ListN.{length, take, drop, get_or, length-drop}
 use Rattle.std.proofs.lemmas.List.{take_all}
-use lib.Dec.{leb}
+use lib.Dec.{eqb, leb}
 use borrow.Author.Tests.{le-leb, lt-leb}
 use Rattle.std.specs.List.{IsSplitAt}
 use Rattle.wire.specs.Reply.{Reply, refused, given}
@@ -26,6 +26,24 @@ functions_enough (suc f) (suc g) on (tag ∷ n ∷ rest) t h k =
     ap (λ (r : Reply Settings). formed (length_fits tag n) (formed (leb (n - 2) (length rest)) r))
     (functions_enough f g on (drop (n - 2) rest) (cond on (set_by tag (take (n - 2) rest) t) t)
     (omega (arith, length-drop (n - 2) rest)) (omega (arith, length-drop (n - 2) rest)))
+
+none : (a b c : Bool) → cond a false (cond b false (cond c false false)) ≡ false
+none true b c = refl
+none false true c = refl
+none false false true = refl
+none false false false = refl
+
+-- every function counts its tag and its length
+unfit : (tag n : ℕ) → n < 2 → length_fits tag n ≡ false
+unfolding length_fits
+unfit tag zero h = none (eqb tag 0) (eqb tag 1) (eqb tag 2)
+unfit tag (suc zero) h = none (eqb tag 0) (eqb tag 1) (eqb tag 2)
+unfit tag (suc (suc n)) h = absurd (omega arith)
+
+-- what has its form goes on
+goes_on : (b : Bool) (u : Settings) (k : Settings → Reply Settings) → formed b (k u) ≡ and_then (formed b (given u)) k
+goes_on true u k = refl
+goes_on false u k = refl
 
 module _ (on : Bool) (t : Settings) where
   functions_turn : (tag n : ℕ) (rest : List ℕ)
@@ -48,26 +66,26 @@ module _ (on : Bool) (t : Settings) where
   functions_cut (tag ∷ []) h k = refl
   functions_cut (tag ∷ n ∷ rest) h k = absurd (omega arith)
 
-  pub functions_unfit : (s : List ℕ) → 2 ≤ length s → length_fits (get_or s 0 0) (get_or s 1 0) ≡ false → functions_of on s t ≡ refused 10
-  functions_unfit [] h e = absurd (omega arith)
-  functions_unfit (tag ∷ []) h e = absurd (omega arith)
-  functions_unfit (tag ∷ n ∷ rest) h e = rw (functions_turn tag n rest, e) refl
-  pub functions_over : (s : List ℕ) → 2 ≤ length s → length s - 2 < get_or s 1 0 - 2 → functions_of on s t ≡ refused 10
+  pub functions_over : (s : List ℕ) → 2 ≤ length s → length s < get_or s 1 0 → functions_of on s t ≡ refused 10
   functions_over [] h l = absurd (omega arith)
   functions_over (tag ∷ []) h l = absurd (omega arith)
-  functions_over (tag ∷ n ∷ rest) h l = rw (functions_turn tag n rest, lt-leb (n - 2) (length rest) (omega arith)) (either (length_fits tag n))
+  functions_over (tag ∷ n ∷ s) h l = rw (functions_turn tag n s, lt-leb (n - 2) (length s) (omega arith)) (either (length_fits tag n))
     where
       either : (b : Bool) → formed {A = Settings} b (refused 10) ≡ refused 10
       either true = refl
       either false = refl
 
-  pub functions_on : (s body rest : List ℕ) (u : Settings) → 2 ≤ length s → length_fits (get_or s 0 0) (get_or s 1 0) ≡ true
-      → IsSplitAt (take (length s - 2) (drop 2 s)) (get_or s 1 0 - 2) body rest → u ≡ cond on (set_by (get_or s 0 0) body t) t → functions_of on s t ≡ functions_of on rest u
-  functions_on [] body rest u h e p q = absurd (omega arith)
-  functions_on (tag ∷ []) body rest u h e p q = absurd (omega arith)
-  functions_on (tag ∷ n ∷ s) body rest u h e p q =
-      let x : IsSplitAt s (n - 2) body rest = rw (take_all (length (tag ∷ n ∷ s) - 2) s (omega arith)) at p in
-      rw (functions_turn tag n s, e, le-leb (n - 2) (length s) x.0, ← x.1, ← x.2, ← q) refl
+  -- what the first function gives goes on
+  pub functions_on : (s function rest : List ℕ) (r : Reply Settings) → 2 ≤ length s → IsSplitAt s (get_or s 1 0) function rest
+      → r ≡ formed (length_fits (get_or function 0 0) (length function)) (given (cond on (set_by (get_or function 0 0) (drop 2 function) t) t))
+      → functions_of on s t ≡ and_then r λ u. functions_of on rest u
+  functions_on [] function rest r h p e = absurd (omega arith)
+  functions_on (tag ∷ []) function rest r h p e = absurd (omega arith)
+  functions_on (tag ∷ zero ∷ s) function rest r h p e = rw (functions_turn tag 0 s, e, p.1, unfit tag 0 (omega arith), unfit 0 0 (omega arith)) refl
+  functions_on (tag ∷ suc zero ∷ s) function rest r h p e = rw (functions_turn tag 1 s, e, p.1, unfit tag 1 (omega arith)) refl
+  functions_on (tag ∷ suc (suc m) ∷ s) function rest r h p e =
+      let k : suc (suc m) - 2 ≡ m = omega arith in
+      rw (functions_turn tag (suc (suc m)) s, e, p.3, p.1, p.2, k, le-leb m (length s) (omega arith)) (goes_on (length_fits tag (suc (suc m))) _ _)
 
 -- what follows is alike where what is given goes on alike
 then_alike : (x : Reply Settings) (k l : Settings → Reply Settings) → ((a : Settings) → k a ≡ l a) → and_then x k ≡ and_then x l
@@ -124,5 +142,6 @@ module _ (site : ℕ) (t : Settings) where
       let x : IsSplitAt s n entry rest = rw (take_all (length (hi ∷ lo ∷ n ∷ s) - 3) s (omega arith)) at p in
       rw (entries_turn hi lo n s, le-leb n (length s) x.0, ← x.1, ← x.2, ← e) refl
 
-pub ruleset functions_turns = (functions_done, functions_cut, functions_unfit, functions_over)
+pub ruleset functions_turns = (functions_done, functions_cut, functions_over)
+
 pub ruleset entries_turns = (entries_done, entries_cut, entries_over)

@@ -1,10 +1,10 @@
 // The individual addressing field of a notice, TS 101 191 clause 6: its form, and the settings that it gives a site.
 #![tactic(auto)]
 
-ghost use Rattle.std.specs.Prelude.{◌≡◌, ◌≤◌, true, cond};
-ghost use Rattle.addressing.specs.Functions.{no_settings, length_fits, set_by, functions_of};
+ghost use Rattle.std.specs.Prelude.{◌≡◌, ◌≤◌, cond, slice_index, length, drop, IfOk};
+ghost use Rattle.addressing.specs.Functions.{length_fits, set_by, formed, functions_of};
 ghost use Rattle.addressing.specs.Entries.{addressed, settings_of, well_formed};
-ghost use Rattle.wire.specs.Reply.{reply_of};
+ghost use Rattle.wire.specs.Reply.{given, reply_of};
 
 use wire::Refusal;
 
@@ -17,30 +17,6 @@ pub struct Settings {
     pub frequency: i32,
 }
 
-// The settings of a site that was told nothing.
-pub fn no_settings() -> Settings
-    ensures { result ≡ no_settings }
-{
-    Settings {
-        od: 0,
-        frequency: 0,
-        power: 0,
-    }
-}
-
-// Whether a function of this tag may have this length.
-#[tactic(auto, unfolding(crate::specs::Functions::length_fits))]
-fn length_fits(tag: u8, n: u8) -> bool
-    ensures value { result ≡ length_fits tag n }
-    ensures at_least { result ≡ true → 2 ≤ n }
-{
-    match tag {
-        0 | 2 => n == 4,
-        1 => n == 5,
-        _ => n >= 2,
-    }
-}
-
 // Whether an entry for id is addressed to the site.
 #[tactic(auto, unfolding(crate::specs::Entries::addressed))]
 fn addressed(site: u16, id: u16) -> bool
@@ -49,29 +25,30 @@ fn addressed(site: u16, id: u16) -> bool
     id == 0 || id == site
 }
 
-// The settings after one function, where it applies.
-#[tactic(auto, unfolding(crate::specs::Functions::set_by))]
-fn set_by(on: bool, tag: u8, body: &[u8], t: Settings) -> Settings
-    ensures { result ≡ cond on (set_by tag body.now t) t }
+// The settings after one function, which is a tag, a length and a body, where it applies.
+#[tactic(auto, unfolding(crate::specs::Functions::length_fits, crate::specs::Functions::set_by))]
+fn set_by(on: bool, function: &[u8], t: Settings) -> Result<Settings, Refusal>
+    ensures value { reply_of result ≡ formed (length_fits (slice_index function.now 0) (length function.now))
+        (given (cond on (set_by (slice_index function.now 0) (drop 2 function.now) t) t)) }
+    ensures counted { IfOk result (λ u. 2 ≤ length function.now) }
 {
-    if !on {
-        return t;
-    }
-    match tag {
-        0 => Settings {
-            od: wire::signed_16(wire::number16_at(body, 0)),
+    let told = match function {
+        [0, _, a, b] => Settings {
+            od: wire::signed_16(u16::from_be_bytes([*a, *b])),
             ..t
         },
-        1 => Settings {
-            frequency: wire::signed_24(wire::number24_at(body, 0)),
+        [1, _, a, b, c] => Settings {
+            frequency: wire::signed_24(u32::from_be_bytes([0, *a, *b, *c])),
             ..t
         },
-        2 => Settings {
-            power: wire::number16_at(body, 0),
+        [2, _, a, b] => Settings {
+            power: u16::from_be_bytes([*a, *b]),
             ..t
         },
-        _ => t,
-    }
+        [3..=255, _, ..] => t,
+        _ => return Err(Refusal::AddressingForm),
+    };
+    Ok(if on { told } else { t })
 }
 
 // The settings after the functions of a loop, where they apply.
@@ -80,15 +57,12 @@ fn functions(on: bool, mut s: &[u8], before: Settings) -> Result<Settings, Refus
     ensures { reply_of result ≡ functions_of on s.now before }
 {
     let mut t = before;
-    while let [tag, n, rest @ ..] = s {
-        if !length_fits(*tag, *n) {
-            return Err(Refusal::AddressingForm);
-        }
-        let (body, after) = rest
-            .split_at_checked(*n as usize - 2)
+    while let [_, n, ..] = s {
+        let (function, rest) = s
+            .split_at_checked(*n as usize)
             .ok_or(Refusal::AddressingForm)?;
-        t = set_by(on, *tag, body, t);
-        s = after;
+        t = set_by(on, function, t)?;
+        s = rest;
     }
     if s.is_empty() {
         Ok(t)
@@ -104,12 +78,12 @@ pub fn settings_of(mut s: &[u8], site: u16, before: Settings) -> Result<Settings
 {
     let mut t = before;
     while let [high, low, n, rest @ ..] = s {
-        let (entry, after) = rest
+        let (entry, rest) = rest
             .split_at_checked(*n as usize)
             .ok_or(Refusal::AddressingForm)?;
         let on = addressed(site, u16::from_be_bytes([*high, *low]));
         t = functions(on, entry, t)?;
-        s = after;
+        s = rest;
     }
     if s.is_empty() {
         Ok(t)

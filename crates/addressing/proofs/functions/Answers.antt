@@ -1,10 +1,18 @@
-use Rattle.std.proofs.Common.{◌≡◌, ◌∙◌, sym}
+use Rattle.std.proofs.Common.{◌≡◌, ◌∙◌, sym, rules}
+use Rattle.wire.specs.Reply.{reply_of, refused, given, refusal_number}
 use Rattle.addressing.proofs.Turns.{functions_on}
 use Rattle.addressing.proofs.functions.Goals as goal
 
--- the turn's function is done, and the rest is left
+pub returns-in_err-t : goal.returns-in_err-t
+returns-in_err-t c =
+    let e : reply_of c.from_residual-in_err-t.result ≡ refused (refusal_number c.in_err-t.field-0.0) = search rules in
+    e
+    ∙ sym (functions_on c.args.on c.loop-s.t c.loop-s.s.now c.in_ok-function.function.now c.in_ok-function.rest.now (refused (refusal_number c.in_err-t.field-0.0))
+    c.in-len2-up.len_at_least (rw c.in_ok-function.ensures.ok_part at c.split_at_checked.ensures.cases) (search (rules, c.in_err-t.ensures)))
+    ∙ c.loop-s.invariant
+
 pub loop-s-preserved : goal.loop-s-preserved
 loop-s-preserved c =
-    sym (functions_on c.args.on c.loop-s.t c.loop-s.s.now c.in_ok-body.body.now c.in_ok-body.after.now c.set_by-t.result c.in-len2-up.len_at_least
-    (sym c.if-not-length_fits.ensures.value) (rw c.in_ok-body.ensures.ok_part at c.split_at_checked.ensures.cases) c.set_by-t.ensures)
+    sym (functions_on c.args.on c.loop-s.t c.loop-s.s.now c.in_ok-function.function.now c.in_ok-function.rest.now (given c.in_ok-t.t) c.in-len2-up.len_at_least
+    (rw c.in_ok-function.ensures.ok_part at c.split_at_checked.ensures.cases) (search (rules, c.in_ok-t.ensures)))
     ∙ c.loop-s.invariant
