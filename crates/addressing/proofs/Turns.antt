@@ -1,5 +1,5 @@
 -- One function off the front of a loop, and one entry off the front of a field: what is left to do is the same walk over the rest.
-use mathlib.Core.Path.{◌≡◌, refl, ap, ◌∙◌}
+use mathlib.Core.Path.{◌≡◌, refl, ap}
 use mathlib.Core.Bool.{Bool, true, false, cond}
 use mathlib.Core.List.{List, [], ◌∷◌}
 use Prim.Native.Nat.{ℕ, zero, suc, ◌-◌, ◌≤◌, ◌<◌}
@@ -39,6 +39,9 @@ unfolding length_fits
 unfit tag zero h = none (eqb tag 0) (eqb tag 1) (eqb tag 2)
 unfit tag (suc zero) h = none (eqb tag 0) (eqb tag 1) (eqb tag 2)
 unfit tag (suc (suc n)) h = absurd (omega arith)
+
+pub at_least : (tag n : ℕ) → length_fits tag n ≡ true → 2 ≤ n
+at_least tag n e = grind (arith, unfit)
 
 -- what has its form goes on
 goes_on : (b : Bool) (u : Settings) (k : Settings → Reply Settings) → formed b (k u) ≡ and_then (formed b (given u)) k

@@ -2,7 +2,7 @@
 #![tactic(auto)]
 
 ghost use Rattle.std.specs.Prelude.{◌≡◌, ◌≤◌, cond, slice_index, length, drop, IfOk};
-ghost use Rattle.addressing.specs.Functions.{length_fits, set_by, formed, functions_of};
+ghost use Rattle.addressing.specs.Functions.{no_settings, length_fits, set_by, formed, functions_of};
 ghost use Rattle.addressing.specs.Entries.{addressed, settings_of, well_formed};
 ghost use Rattle.wire.specs.Reply.{given, reply_of};
 
@@ -17,6 +17,13 @@ pub struct Settings {
     pub frequency: i32,
 }
 
+// The settings of a site that was told nothing. A name beside the derived default, so that it is said once that this is what the definitions call no_settings.
+pub fn no_settings() -> Settings
+    ensures { result ≡ no_settings }
+{
+    Settings::default()
+}
+
 // Whether an entry for id is addressed to the site.
 #[tactic(auto, unfolding(crate::specs::Entries::addressed))]
 fn addressed(site: u16, id: u16) -> bool
@@ -25,7 +32,7 @@ fn addressed(site: u16, id: u16) -> bool
     id == 0 || id == site
 }
 
-// The settings after one function, which is a tag, a length and a body, where it applies.
+// The settings after one function, which is its tag, its length and its body, where it applies. Each arm has the length, so that reads need no test of it.
 #[tactic(auto, unfolding(crate::specs::Functions::length_fits, crate::specs::Functions::set_by))]
 fn set_by(on: bool, function: &[u8], t: Settings) -> Result<Settings, Refusal>
     ensures value { reply_of result ≡ formed (length_fits (slice_index function.now 0) (length function.now))
@@ -97,5 +104,5 @@ pub fn settings_of(mut s: &[u8], site: u16, before: Settings) -> Result<Settings
 pub fn well_formed(s: &[u8]) -> bool
     ensures { result ≡ well_formed s.now }
 {
-    settings_of(s, 0, Settings::default()).is_ok()
+    settings_of(s, 0, no_settings()).is_ok()
 }

@@ -1,8 +1,8 @@
 // The cadence: how many packets it has, the label of a packet in it, and the packet's place in the M/H frame.
 #![tactic(auto)]
 
-ghost use Rattle.std.specs.Prelude.{◌≡◌, [], ◌∷◌, eqb};
-ghost use Rattle.cadence.specs.Cadence.{bits_of, numerator_of, denominator_of, length_of, any_of, at_some_rate, is_mega_frame, admits};
+ghost use Rattle.std.specs.Prelude.{◌≡◌};
+ghost use Rattle.cadence.specs.Cadence.{bits_of, numerator_of, denominator_of, length_of, at_some_rate, is_mega_frame, admits};
 ghost use Rattle.cadence.specs.Label.{label_of, pointer_of, in_cadence};
 ghost use Rattle.wire.specs.Reply.{reply_of};
 ghost use Rattle.cadence.specs.MobileFrame.{mobile_place};
@@ -17,6 +17,7 @@ pub enum Constellation {
     Qam64,
 }
 
+// The constellations, for the lengths that there are.
 const CONSTELLATIONS: [Constellation; 3] = [
     Constellation::Qpsk,
     Constellation::Qam16,
@@ -46,6 +47,7 @@ pub enum CodeRate {
     SevenEighths,
 }
 
+// The code rates, for the same.
 const CODE_RATES: [CodeRate; 5] = [
     CodeRate::Half,
     CodeRate::TwoThirds,
@@ -128,7 +130,7 @@ pub fn label_of(n: u16, pointer: u16) -> Result<u16, Refusal>
     }
 }
 
-// The pointer that a notice has at this label.
+// The pointer that a notice has at this label: the same map back, under the name that the documents have for it.
 pub fn pointer_of(n: u16, label: u16) -> Result<u16, Refusal>
     ensures { reply_of result ≡ in_cadence n label (pointer_of n label) }
 {

@@ -1,3 +1,4 @@
+-- Each turn does the first function, so that the invariant carries what is left to the whole.
 use Rattle.std.proofs.Common.{◌≡◌, ◌∙◌, sym, rules}
 use Rattle.wire.specs.Reply.{reply_of, refused, given, refusal_number}
 use Rattle.addressing.proofs.Turns.{functions_on}
