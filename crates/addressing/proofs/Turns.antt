@@ -1,141 +1,150 @@
--- One turn of the walk over the functions of a loop, and of the walk over the entries of a field, at a place of it.
-use mathlib.Core.Path.{◌≡◌, refl, sym, ap, ◌∙◌}
+-- One function off the front of a loop, and one entry off the front of a field: what is left to do is the same walk over the rest.
+use mathlib.Core.Path.{◌≡◌, refl, ap}
 use mathlib.Core.Bool.{Bool, true, false, cond}
-use mathlib.Core.List.{List, ◌∷◌}
-use Prim.Native.Nat.{ℕ, zero, suc, ◌+◌, ◌-◌, ◌≤◌, ◌<◌}
+use mathlib.Core.List.{List, [], ◌∷◌}
+use Prim.Native.Nat.{ℕ, zero, suc, ◌-◌, ◌≤◌, ◌<◌}
 use native.Mathlib.Omega.{arith}
-use native.Mathlib.Decide.{dec_le}
-use lib.ListN.{length, drop, take, get_or, length-drop, drop_of_length-le}
-use lib.Seq.{drop-cons, drop-drop}
+use lib.ListN.{length, take, drop, get_or, length-drop}
+use Rattle.std.proofs.lemmas.List.{take_all}
 use lib.Dec.{eqb, leb}
-use borrow.Author.Tests.{eqb-true, leb-true, le-leb, lt-leb}
+use borrow.Author.Tests.{le-leb, lt-leb}
+use Rattle.std.specs.List.{IsSplitAt}
 use Rattle.wire.specs.Reply.{Reply, refused, given}
+use Rattle.wire.specs.BigEndian.{be16_at, be16}
 use Rattle.addressing.specs.declared.Settings.{Settings}
-use Rattle.wire.specs.BigEndian.{be16_at}
-use Rattle.addressing.specs.Functions.{length_fits, set_by, functions_in, functions_of}
-use Rattle.addressing.specs.Entries.{addressed, entries_in}
+use Rattle.addressing.specs.Functions.{length_fits, set_by, formed, functions_in, functions_of}
+use Rattle.addressing.specs.Entries.{addressed, and_then, entries_in, settings_of}
+
+-- more turns than bytes are all alike
+functions_enough : (f g : ℕ) (on : Bool) (s : List ℕ) (t : Settings) → length s < f → length s < g → functions_in f on s t ≡ functions_in g on s t
+unfolding functions_in
+functions_enough zero g on s t h k = absurd (omega arith)
+functions_enough (suc f) zero on s t h k = absurd (omega arith)
+functions_enough (suc f) (suc g) on [] t h k = refl
+functions_enough (suc f) (suc g) on (tag ∷ []) t h k = refl
+functions_enough (suc f) (suc g) on (tag ∷ n ∷ rest) t h k =
+    ap (λ (r : Reply Settings). formed (length_fits tag n) (formed (leb (n - 2) (length rest)) r))
+    (functions_enough f g on (drop (n - 2) rest) (cond on (set_by tag (take (n - 2) rest) t) t)
+    (omega (arith, length-drop (n - 2) rest)) (omega (arith, length-drop (n - 2) rest)))
+
+none : (a b c : Bool) → cond a false (cond b false (cond c false false)) ≡ false
+none true b c = refl
+none false true c = refl
+none false false true = refl
+none false false false = refl
 
 -- every function counts its tag and its length
-cases : (a b c : Bool) (n : ℕ) → cond a (eqb n 4) (cond b (eqb n 5) (cond c (eqb n 4) (leb 2 n))) ≡ true → 2 ≤ n
-cases true b c n h = omega (arith, eqb-true n 4 h)
-cases false true c n h = omega (arith, eqb-true n 5 h)
-cases false false true n h = omega (arith, eqb-true n 4 h)
-cases false false false n h = leb-true 2 n h
+unfit : (tag n : ℕ) → n < 2 → length_fits tag n ≡ false
+unfolding length_fits
+unfit tag zero h = none (eqb tag 0) (eqb tag 1) (eqb tag 2)
+unfit tag (suc zero) h = none (eqb tag 0) (eqb tag 1) (eqb tag 2)
+unfit tag (suc (suc n)) h = absurd (omega arith)
 
 pub at_least : (tag n : ℕ) → length_fits tag n ≡ true → 2 ≤ n
-unfolding length_fits
-at_least tag n h = cases (eqb tag 0) (eqb tag 1) (eqb tag 2) n h
+at_least tag n e = grind (arith, unfit)
 
--- a list from a place on begins with what stands there
-pub one_on : (s : List ℕ) (at next : ℕ) → at < length s → next ≡ at + 1 → drop at s ≡ get_or s at 0 ∷ drop next s
-one_on s at next h e =
-    let n : suc at ≡ next = omega arith in
-    drop-cons s at 0 h ∙ ap (λ (k : ℕ). get_or s at 0 ∷ drop k s) n
+-- what has its form goes on
+goes_on : (b : Bool) (u : Settings) (k : Settings → Reply Settings) → formed b (k u) ≡ and_then (formed b (given u)) k
+goes_on true u k = refl
+goes_on false u k = refl
 
-pub two_on : (s : List ℕ) (at : ℕ) → at + 2 ≤ length s → drop at s ≡ get_or s at 0 ∷ get_or s (at + 1) 0 ∷ drop (at + 2) s
-two_on s at h =
-    one_on s at (at + 1) (omega arith) refl
-    ∙ ap (λ (l : List ℕ). get_or s at 0 ∷ l) (one_on s (at + 1) (at + 2) (omega arith) (omega arith))
+module _ (on : Bool) (t : Settings) where
+  functions_turn : (tag n : ℕ) (rest : List ℕ)
+      → functions_of on (tag ∷ n ∷ rest) t
+      ≡ formed (length_fits tag n) (formed (leb (n - 2) (length rest)) (functions_of on (drop (n - 2) rest) (cond on (set_by tag (take (n - 2) rest) t) t)))
+  unfolding functions_in functions_of
+  functions_turn tag n rest =
+      ap (λ (r : Reply Settings). formed (length_fits tag n) (formed (leb (n - 2) (length rest)) r))
+      (functions_enough (length (tag ∷ n ∷ rest)) (suc (length (drop (n - 2) rest))) on (drop (n - 2) rest) (cond on (set_by tag (take (n - 2) rest) t) t)
+      (omega (arith, length-drop (n - 2) rest)) (omega arith))
 
-pub three_on : (s : List ℕ) (at : ℕ) → at + 3 ≤ length s
-    → drop at s ≡ get_or s at 0 ∷ get_or s (at + 1) 0 ∷ get_or s (at + 2) 0 ∷ drop (at + 3) s
-three_on s at h =
-    two_on s at (omega arith)
-    ∙ ap (λ (l : List ℕ). get_or s at 0 ∷ get_or s (at + 1) 0 ∷ l) (one_on s (at + 2) (at + 3) (omega arith) (omega arith))
+  pub functions_done : (s : List ℕ) → length s ≡ 0 → functions_of on s t ≡ given t
+  unfolding functions_in functions_of
+  functions_done [] h = refl
+  functions_done (a ∷ s) h = absurd (omega arith)
 
--- what is left of a list, from a place on
-pub left_of : (s : List ℕ) (at k : ℕ) → length (drop (at + k) s) ≡ length s - at - k
-left_of s at k = length-drop (at + k) s ∙ (omega arith)
+  pub functions_cut : (s : List ℕ) → 0 < length s → length s < 2 → functions_of on s t ≡ refused 10
+  unfolding functions_in functions_of
+  functions_cut [] h k = absurd (omega arith)
+  functions_cut (tag ∷ []) h k = refl
+  functions_cut (tag ∷ n ∷ rest) h k = absurd (omega arith)
 
-module _ (on : Bool) (s : List ℕ) (at : ℕ) (t : Settings) where
-  pub functions_done : (f : ℕ) → length s - at < f → length s ≤ at → given t ≡ functions_in f on (drop at s) t
-  unfolding functions_in
-  functions_done zero h l = absurd (omega arith)
-  functions_done (suc f) h l = rw (drop_of_length-le s l)
-
-  pub functions_cut : (f : ℕ) → at < length s → length s < at + 2 → refused 10 ≡ functions_in f on (drop at s) t
-  unfolding functions_in
-  functions_cut zero h l = refl
-  functions_cut (suc f) h l =
-      let e : length s ≤ at + 1 = omega arith in
-      rw (one_on s at (at + 1) h refl, drop_of_length-le s e)
-
-  module _ (n : ℕ) (e : n ≡ get_or s (at + 1) 0) (h : at + 2 ≤ length s) where
-    pub functions_unfit : (f : ℕ) → length_fits (get_or s at 0) n ≡ false → refused 10 ≡ functions_in f on (drop at s) t
-    unfolding functions_in
-    functions_unfit zero q = refl
-    functions_unfit (suc f) q = rw (two_on s at h, ← e, q)
-
-    module _ (fit : length_fits (get_or s at 0) n ≡ true) where
-      pub functions_over : (f : ℕ) → length s < at + n → refused 10 ≡ functions_in f on (drop at s) t
-      unfolding functions_in
-      functions_over zero l = refl
-      functions_over (suc f) l =
-          let m : 2 ≤ n = at_least (get_or s at 0) n fit in
-          let o : length (drop (at + 2) s) < n - 2 = omega (arith, left_of s at 2) in
-          rw (two_on s at h, ← e, fit, lt-leb (n - 2) (length (drop (at + 2) s)) o)
-
-      functions_next : (f : ℕ) → at + n ≤ length s
-          → functions_in (suc f) on (drop at s) t ≡ functions_in f on (drop (at + n) s) (cond on (set_by (get_or s at 0) (take (n - 2) (drop (at + 2) s)) t) t)
-      unfolding functions_in
-      functions_next f l =
-          let m : 2 ≤ n = at_least (get_or s at 0) n fit in
-          let o : n - 2 ≤ length (drop (at + 2) s) = omega (arith, left_of s at 2) in
-          let q : at + 2 + (n - 2) ≡ at + n = omega arith in
-          rw (two_on s at h, ← e, fit, le-leb (n - 2) (length (drop (at + 2) s)) o, drop-drop (n - 2) (at + 2) s, q)
-
-      -- with one turn less, the rest of the walk is the same
-      pub functions_on : (f : ℕ) (r : Reply Settings) (t' : Settings) → length s - at < f → functions_in f on (drop at s) t ≡ r
-          → at + n ≤ length s → t' ≡ cond on (set_by (get_or s at 0) (take (n - 2) (drop (at + 2) s)) t) t
-          → (g : ℕ) × (length s - (at + n) < g) × (functions_in g on (drop (at + n) s) t' ≡ r)
-      functions_on zero r t' b i l q = absurd (omega arith)
-      functions_on (suc f) r t' b i l q =
-          let m : 2 ≤ n = at_least (get_or s at 0) n fit in
-          (f, omega arith, ap (functions_in f on (drop (at + n) s)) q ∙ sym (functions_next f l) ∙ i)
-
-module _ (s : List ℕ) (at site : ℕ) (t : Settings) where
-  pub entries_done : (f : ℕ) → length s - at < f → length s ≤ at → given t ≡ entries_in f (drop at s) site t
-  unfolding entries_in
-  entries_done zero h l = absurd (omega arith)
-  entries_done (suc f) h l = rw (drop_of_length-le s l)
-
-  pub entries_cut : (f : ℕ) → at < length s → length s < at + 3 → refused 10 ≡ entries_in f (drop at s) site t
-  unfolding entries_in
-  entries_cut zero h l = refl
-  entries_cut (suc f) h l = go (dec_le (at + 2) (length s))
+  pub functions_over : (s : List ℕ) → 2 ≤ length s → length s < get_or s 1 0 → functions_of on s t ≡ refused 10
+  functions_over [] h l = absurd (omega arith)
+  functions_over (tag ∷ []) h l = absurd (omega arith)
+  functions_over (tag ∷ n ∷ s) h l = rw (functions_turn tag n s, lt-leb (n - 2) (length s) (omega arith)) (either (length_fits tag n))
     where
-      go : Dec (at + 2 ≤ length s) → refused 10 ≡ entries_in (suc f) (drop at s) site t
-      go (yes m) =
-          let e : length s ≤ at + 2 = omega arith in
-          rw (two_on s at m, drop_of_length-le s e)
-      go (no m) =
-          let e : length s ≤ at + 1 = omega arith in
-          rw (one_on s at (at + 1) h refl, drop_of_length-le s e)
+      either : (b : Bool) → formed {A = Settings} b (refused 10) ≡ refused 10
+      either true = refl
+      either false = refl
 
-  module _ (n : ℕ) (e : n ≡ get_or s (at + 2) 0) (h : at + 3 ≤ length s) where
-    pub entries_over : (f : ℕ) → length s < at + 3 + n → refused 10 ≡ entries_in f (drop at s) site t
-    unfolding entries_in
-    entries_over zero l = refl
-    entries_over (suc f) l =
-        let o : length (drop (at + 3) s) < n = omega (arith, left_of s at 3) in
-        rw (three_on s at h, ← e, lt-leb n (length (drop (at + 3) s)) o)
+  -- what the first function gives goes on
+  pub functions_on : (s function rest : List ℕ) (r : Reply Settings) → 2 ≤ length s → IsSplitAt s (get_or s 1 0) function rest
+      → r ≡ formed (length_fits (get_or function 0 0) (length function)) (given (cond on (set_by (get_or function 0 0) (drop 2 function) t) t))
+      → functions_of on s t ≡ and_then r λ u. functions_of on rest u
+  functions_on [] function rest r h p e = absurd (omega arith)
+  functions_on (tag ∷ []) function rest r h p e = absurd (omega arith)
+  functions_on (tag ∷ zero ∷ s) function rest r h p e = rw (functions_turn tag 0 s, e, p.1, unfit tag 0 (omega arith), unfit 0 0 (omega arith)) refl
+  functions_on (tag ∷ suc zero ∷ s) function rest r h p e = rw (functions_turn tag 1 s, e, p.1, unfit tag 1 (omega arith)) refl
+  functions_on (tag ∷ suc (suc m) ∷ s) function rest r h p e =
+      let k : suc (suc m) - 2 ≡ m = omega arith in
+      rw (functions_turn tag (suc (suc m)) s, e, p.3, p.1, p.2, k, le-leb m (length s) (omega arith)) (goes_on (length_fits tag (suc (suc m))) _ _)
 
-    module _ (l : at + 3 + n ≤ length s) where
-      room : n ≤ length (drop (at + 3) s)
-      room = omega (arith, left_of s at 3)
+-- what follows is alike where what is given goes on alike
+then_alike : (x : Reply Settings) (k l : Settings → Reply Settings) → ((a : Settings) → k a ≡ l a) → and_then x k ≡ and_then x l
+then_alike (refused n) k l h = refl
+then_alike (given a) k l h = h a
 
-      pub entries_wrong : (f : ℕ) → functions_of (addressed site (be16_at s at)) (take n (drop (at + 3) s)) t ≡ refused 10 → refused 10 ≡ entries_in f (drop at s) site t
-      unfolding entries_in
-      entries_wrong zero w = refl
-      entries_wrong (suc f) w = rw (three_on s at h, ← e, le-leb n (length (drop (at + 3) s)) room, w)
+entries_enough : (f g : ℕ) (s : List ℕ) (site : ℕ) (t : Settings) → length s < f → length s < g → entries_in f s site t ≡ entries_in g s site t
+unfolding entries_in
+entries_enough zero g s site t h k = absurd (omega arith)
+entries_enough (suc f) zero s site t h k = absurd (omega arith)
+entries_enough (suc f) (suc g) [] site t h k = refl
+entries_enough (suc f) (suc g) (hi ∷ []) site t h k = refl
+entries_enough (suc f) (suc g) (hi ∷ lo ∷ []) site t h k = refl
+entries_enough (suc f) (suc g) (hi ∷ lo ∷ n ∷ rest) site t h k =
+    ap (formed (leb n (length rest)))
+    (then_alike (functions_of (addressed site (be16 hi lo)) (take n rest) t) _ _ λ u.
+    entries_enough f g (drop n rest) site u (omega (arith, length-drop n rest)) (omega (arith, length-drop n rest)))
 
-      -- with one turn less, the rest of the walk is the same
-      pub entries_on : (f : ℕ) (r : Reply Settings) (after : Settings) → length s - at < f → entries_in f (drop at s) site t ≡ r
-          → functions_of (addressed site (be16_at s at)) (take n (drop (at + 3) s)) t ≡ given after
-          → (g : ℕ) × (length s - (at + 3 + n) < g) × (entries_in g (drop (at + 3 + n) s) site after ≡ r)
-      unfolding entries_in
-      entries_on zero r after b i w = absurd (omega arith)
-      entries_on (suc f) r after b i w =
-          let next : entries_in (suc f) (drop at s) site t ≡ entries_in f (drop (at + 3 + n) s) site after =
-          rw (three_on s at h, ← e, le-leb n (length (drop (at + 3) s)) room, w, drop-drop n (at + 3) s) in
-          (f, omega arith, sym next ∙ i)
+module _ (site : ℕ) (t : Settings) where
+  entries_turn : (hi lo n : ℕ) (rest : List ℕ)
+      → settings_of (hi ∷ lo ∷ n ∷ rest) site t
+      ≡ formed (leb n (length rest)) (and_then (functions_of (addressed site (be16 hi lo)) (take n rest) t) λ u. settings_of (drop n rest) site u)
+  unfolding entries_in settings_of
+  entries_turn hi lo n rest =
+      ap (formed (leb n (length rest)))
+      (then_alike (functions_of (addressed site (be16 hi lo)) (take n rest) t) _ _ λ u.
+      entries_enough (length (hi ∷ lo ∷ n ∷ rest)) (suc (length (drop n rest))) (drop n rest) site u (omega (arith, length-drop n rest)) (omega arith))
+
+  pub entries_done : (s : List ℕ) → length s ≡ 0 → settings_of s site t ≡ given t
+  unfolding entries_in settings_of
+  entries_done [] h = refl
+  entries_done (a ∷ s) h = absurd (omega arith)
+
+  pub entries_cut : (s : List ℕ) → 0 < length s → length s < 3 → settings_of s site t ≡ refused 10
+  unfolding entries_in settings_of
+  entries_cut [] h k = absurd (omega arith)
+  entries_cut (hi ∷ []) h k = refl
+  entries_cut (hi ∷ lo ∷ []) h k = refl
+  entries_cut (hi ∷ lo ∷ n ∷ rest) h k = absurd (omega arith)
+
+  pub entries_over : (s : List ℕ) → 3 ≤ length s → length s - 3 < get_or s 2 0 → settings_of s site t ≡ refused 10
+  entries_over [] h l = absurd (omega arith)
+  entries_over (hi ∷ []) h l = absurd (omega arith)
+  entries_over (hi ∷ lo ∷ []) h l = absurd (omega arith)
+  entries_over (hi ∷ lo ∷ n ∷ rest) h l = rw (entries_turn hi lo n rest, lt-leb n (length rest) (omega arith)) refl
+
+  -- what the functions of the first entry give goes on
+  pub entries_on : (s entry rest : List ℕ) (r : Reply Settings) → 3 ≤ length s → IsSplitAt (take (length s - 3) (drop 3 s)) (get_or s 2 0) entry rest
+      → r ≡ functions_of (addressed site (be16_at s 0)) entry t → settings_of s site t ≡ and_then r λ u. settings_of rest site u
+  entries_on [] entry rest r h p e = absurd (omega arith)
+  entries_on (hi ∷ []) entry rest r h p e = absurd (omega arith)
+  entries_on (hi ∷ lo ∷ []) entry rest r h p e = absurd (omega arith)
+  entries_on (hi ∷ lo ∷ n ∷ s) entry rest r h p e =
+      let x : IsSplitAt s n entry rest = rw (take_all (length (hi ∷ lo ∷ n ∷ s) - 3) s (omega arith)) at p in
+      rw (entries_turn hi lo n s, le-leb n (length s) x.0, ← x.1, ← x.2, ← e) refl
+
+pub ruleset functions_turns = (functions_done, functions_cut, functions_over)
+
+pub ruleset entries_turns = (entries_done, entries_cut, entries_over)

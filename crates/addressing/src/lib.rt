@@ -1,10 +1,10 @@
 // The individual addressing field of a notice, TS 101 191 clause 6: its form, and the settings that it gives a site.
 #![tactic(auto)]
 
-ghost use Rattle.std.specs.Prelude.{◌≡◌, cond};
-ghost use Rattle.addressing.specs.Functions.{no_settings, length_fits, set_by, functions_of};
+ghost use Rattle.std.specs.Prelude.{◌≡◌, ◌≤◌, cond, slice_index, length, drop, IfOk};
+ghost use Rattle.addressing.specs.Functions.{no_settings, length_fits, set_by, formed, functions_of};
 ghost use Rattle.addressing.specs.Entries.{addressed, settings_of, well_formed};
-ghost use Rattle.wire.specs.Reply.{reply_of};
+ghost use Rattle.wire.specs.Reply.{given, reply_of};
 
 use wire::Refusal;
 
@@ -17,32 +17,11 @@ pub struct Settings {
     pub frequency: i32,
 }
 
-// The settings of a site that was told nothing.
+// The settings of a site that was told nothing. A name beside the derived default, so that it is said once that this is what the definitions call no_settings.
 pub fn no_settings() -> Settings
     ensures { result ≡ no_settings }
 {
-    Settings {
-        od: 0,
-        frequency: 0,
-        power: 0,
-    }
-}
-
-// Whether a function of this tag may have this length.
-#[tactic(auto, unfolding(crate::specs::Functions::length_fits))]
-fn length_fits(tag: u8, n: usize) -> bool
-    ensures { result ≡ length_fits tag n }
-{
-    if tag == 0 {
-        return n == 4;
-    }
-    if tag == 1 {
-        return n == 5;
-    }
-    if tag == 2 {
-        return n == 4;
-    }
-    n >= 2
+    Settings::default()
 }
 
 // Whether an entry for id is addressed to the site.
@@ -50,87 +29,74 @@ fn length_fits(tag: u8, n: usize) -> bool
 fn addressed(site: u16, id: u16) -> bool
     ensures { result ≡ addressed site id }
 {
-    if id == 0 {
-        return true;
-    }
-    id == site
+    id == 0 || id == site
 }
 
-// The settings after one function, where it applies.
-#[tactic(auto, unfolding(crate::specs::Functions::set_by))]
-fn set_by(on: bool, tag: u8, body: &[u8], t: Settings) -> Settings
-    ensures { result ≡ cond on (set_by tag body.now t) t }
+// The settings after one function, which is its tag, its length and its body, where it applies. Each arm has the length, so that reads need no test of it.
+#[tactic(auto, unfolding(crate::specs::Functions::length_fits, crate::specs::Functions::set_by))]
+fn set_by(on: bool, function: &[u8], t: Settings) -> Result<Settings, Refusal>
+    ensures value { reply_of result ≡ formed (length_fits (slice_index function.now 0) (length function.now))
+        (given (cond on (set_by (slice_index function.now 0) (drop 2 function.now) t) t)) }
+    ensures counted { IfOk result (λ u. 2 ≤ length function.now) }
 {
-    let mut after = t;
-    if !on {
-        return after;
-    }
-    if tag == 0 {
-        after.od = wire::signed_16(wire::number16_at(body, 0));
-        return after;
-    }
-    if tag == 1 {
-        after.frequency = wire::signed_24(wire::number24_at(body, 0));
-        return after;
-    }
-    if tag == 2 {
-        after.power = wire::number16_at(body, 0);
-        return after;
-    }
-    after
+    let told = match function {
+        [0, _, a, b] => Settings {
+            od: wire::signed_16(u16::from_be_bytes([*a, *b])),
+            ..t
+        },
+        [1, _, a, b, c] => Settings {
+            frequency: wire::signed_24(u32::from_be_bytes([0, *a, *b, *c])),
+            ..t
+        },
+        [2, _, a, b] => Settings {
+            power: u16::from_be_bytes([*a, *b]),
+            ..t
+        },
+        [3..=255, _, ..] => t,
+        _ => return Err(Refusal::AddressingForm),
+    };
+    Ok(if on { told } else { t })
 }
 
 // The settings after the functions of a loop, where they apply.
-#[tactic(auto, unfolding(crate::specs::Functions::functions_of))]
-fn functions(on: bool, s: &[u8], before: Settings) -> Result<Settings, Refusal>
+#[tactic(auto, using(crate::proofs::Turns::functions_turns))]
+fn functions(on: bool, mut s: &[u8], before: Settings) -> Result<Settings, Refusal>
     ensures { reply_of result ≡ functions_of on s.now before }
 {
     let mut t = before;
-    let mut at = 0;
-    while at < s.len() {
-        let left = s.len() - at;
-        if left < 2 {
-            return Err(Refusal::AddressingForm);
-        }
-        let tag = s[at];
-        let n = wire::byte_at(s, at + 1) as usize;
-        if !length_fits(tag, n) {
-            return Err(Refusal::AddressingForm);
-        }
-        if left < n {
-            return Err(Refusal::AddressingForm);
-        }
-        let start = at + 2;
-        let end = at + n;
-        t = set_by(on, tag, &s[start..end], t);
-        at = end;
+    while let [_, n, ..] = s {
+        let (function, rest) = s
+            .split_at_checked(*n as usize)
+            .ok_or(Refusal::AddressingForm)?;
+        t = set_by(on, function, t)?;
+        s = rest;
     }
-    Ok(t)
+    if s.is_empty() {
+        Ok(t)
+    } else {
+        Err(Refusal::AddressingForm)
+    }
 }
 
 // The settings of a site after an addressing field, later entries replacing earlier ones; a setting that no entry gives is kept.
-#[tactic(auto, unfolding(crate::specs::Entries::settings_of))]
-pub fn settings_of(s: &[u8], site: u16, before: Settings) -> Result<Settings, Refusal>
+#[tactic(auto, using(crate::proofs::Turns::entries_turns))]
+pub fn settings_of(mut s: &[u8], site: u16, before: Settings) -> Result<Settings, Refusal>
     ensures { reply_of result ≡ settings_of s.now site before }
 {
     let mut t = before;
-    let mut at = 0;
-    while at < s.len() {
-        let left = s.len() - at;
-        if left < 3 {
-            return Err(Refusal::AddressingForm);
-        }
-        let n = wire::byte_at(s, at + 2) as usize;
-        if left - 3 < n {
-            return Err(Refusal::AddressingForm);
-        }
-        let start = at + 3;
-        let end = start + n;
-        let on = addressed(site, wire::number16_at(s, at));
-        t = functions(on, &s[start..end], t)?;
-        at = end;
+    while let [high, low, n, rest @ ..] = s {
+        let (entry, rest) = rest
+            .split_at_checked(*n as usize)
+            .ok_or(Refusal::AddressingForm)?;
+        let on = addressed(site, u16::from_be_bytes([*high, *low]));
+        t = functions(on, entry, t)?;
+        s = rest;
     }
-    Ok(t)
+    if s.is_empty() {
+        Ok(t)
+    } else {
+        Err(Refusal::AddressingForm)
+    }
 }
 
 // Whether an addressing field has the form of clause 6.

@@ -1,8 +1,8 @@
 // The cadence: how many packets it has, the label of a packet in it, and the packet's place in the M/H frame.
 #![tactic(auto)]
 
-ghost use Rattle.std.specs.Prelude.{◌≡◌, [], ◌∷◌, eqb};
-ghost use Rattle.cadence.specs.Cadence.{bits_of, numerator_of, denominator_of, length_of, any_of, at_some_rate, is_mega_frame, admits};
+ghost use Rattle.std.specs.Prelude.{◌≡◌};
+ghost use Rattle.cadence.specs.Cadence.{bits_of, numerator_of, denominator_of, length_of, at_some_rate, is_mega_frame, admits};
 ghost use Rattle.cadence.specs.Label.{label_of, pointer_of, in_cadence};
 ghost use Rattle.wire.specs.Reply.{reply_of};
 ghost use Rattle.cadence.specs.MobileFrame.{mobile_place};
@@ -17,6 +17,26 @@ pub enum Constellation {
     Qam64,
 }
 
+// The constellations, for the lengths that there are.
+const CONSTELLATIONS: [Constellation; 3] = [
+    Constellation::Qpsk,
+    Constellation::Qam16,
+    Constellation::Qam64,
+];
+
+impl Constellation {
+    // v.
+    fn bits(self) -> u32
+        ensures { result ≡ bits_of self }
+    {
+        match self {
+            Constellation::Qpsk => 2,
+            Constellation::Qam16 => 4,
+            Constellation::Qam64 => 6,
+        }
+    }
+}
+
 // r is 1/2, 2/3, 3/4, 5/6 or 7/8.
 #[derive(Clone, Copy)]
 pub enum CodeRate {
@@ -27,40 +47,40 @@ pub enum CodeRate {
     SevenEighths,
 }
 
-// v.
-fn bits(c: Constellation) -> u32
-    ensures { result ≡ bits_of c }
-{
-    match c {
-        Constellation::Qpsk => 2,
-        Constellation::Qam16 => 4,
-        Constellation::Qam64 => 6,
-    }
-}
+// The code rates, for the same.
+const CODE_RATES: [CodeRate; 5] = [
+    CodeRate::Half,
+    CodeRate::TwoThirds,
+    CodeRate::ThreeQuarters,
+    CodeRate::FiveSixths,
+    CodeRate::SevenEighths,
+];
 
-// The numerator of r.
-fn numerator(r: CodeRate) -> u32
-    ensures { result ≡ numerator_of r }
-{
-    match r {
-        CodeRate::Half => 1,
-        CodeRate::TwoThirds => 2,
-        CodeRate::ThreeQuarters => 3,
-        CodeRate::FiveSixths => 5,
-        CodeRate::SevenEighths => 7,
+impl CodeRate {
+    // The numerator of r.
+    fn numerator(self) -> u32
+        ensures { result ≡ numerator_of self }
+    {
+        match self {
+            CodeRate::Half => 1,
+            CodeRate::TwoThirds => 2,
+            CodeRate::ThreeQuarters => 3,
+            CodeRate::FiveSixths => 5,
+            CodeRate::SevenEighths => 7,
+        }
     }
-}
 
-// The denominator of r.
-fn denominator(r: CodeRate) -> u32
-    ensures { result ≡ denominator_of r }
-{
-    match r {
-        CodeRate::Half => 2,
-        CodeRate::TwoThirds => 3,
-        CodeRate::ThreeQuarters => 4,
-        CodeRate::FiveSixths => 6,
-        CodeRate::SevenEighths => 8,
+    // The denominator of r.
+    fn denominator(self) -> u32
+        ensures { result ≡ denominator_of self }
+    {
+        match self {
+            CodeRate::Half => 2,
+            CodeRate::TwoThirds => 3,
+            CodeRate::ThreeQuarters => 4,
+            CodeRate::FiveSixths => 6,
+            CodeRate::SevenEighths => 8,
+        }
     }
 }
 
@@ -68,29 +88,7 @@ fn denominator(r: CodeRate) -> u32
 pub fn length(c: Constellation, r: CodeRate) -> u16
     ensures { result ≡ length_of c r }
 {
-    (2016 * bits(c) * numerator(r) / denominator(r)) as u16
-}
-
-// Whether n is one of five numbers.
-fn one_of(n: u16, a: u16, b: u16, c: u16, d: u16, e: u16) -> bool
-    ensures { result ≡ any_of (a ∷ b ∷ c ∷ d ∷ e ∷ []) (eqb n) }
-{
-    if n == a {
-        return true;
-    }
-    if n == b {
-        return true;
-    }
-    if n == c {
-        return true;
-    }
-    if n == d {
-        return true;
-    }
-    if n == e {
-        return true;
-    }
-    false
+    (2016 * c.bits() * r.numerator() / r.denominator()) as u16
 }
 
 // Whether n is the length of a mega-frame with this constellation.
@@ -98,14 +96,7 @@ fn one_of(n: u16, a: u16, b: u16, c: u16, d: u16, e: u16) -> bool
 fn at_some_rate(n: u16, c: Constellation) -> bool
     ensures { result ≡ at_some_rate n c }
 {
-    one_of(
-        n,
-        length(c, CodeRate::Half),
-        length(c, CodeRate::TwoThirds),
-        length(c, CodeRate::ThreeQuarters),
-        length(c, CodeRate::FiveSixths),
-        length(c, CodeRate::SevenEighths),
-    )
+    CODE_RATES.iter().any(|r| n == length(c, *r))
 }
 
 // Whether n is the length of a mega-frame.
@@ -113,16 +104,7 @@ fn at_some_rate(n: u16, c: Constellation) -> bool
 fn is_mega_frame(n: u16) -> bool
     ensures { result ≡ is_mega_frame n }
 {
-    if at_some_rate(n, Constellation::Qpsk) {
-        return true;
-    }
-    if at_some_rate(n, Constellation::Qam16) {
-        return true;
-    }
-    if at_some_rate(n, Constellation::Qam64) {
-        return true;
-    }
-    false
+    CONSTELLATIONS.iter().any(|c| at_some_rate(n, *c))
 }
 
 // Whether the profile has cadences of n packets.
@@ -130,13 +112,11 @@ fn is_mega_frame(n: u16) -> bool
 pub fn admits(profile: u8, n: u16) -> bool
     ensures { result ≡ admits profile n }
 {
-    if profile == 1 {
-        return n == 624;
+    match profile {
+        0 => is_mega_frame(n),
+        1 => n == 624,
+        _ => false,
     }
-    if profile != 0 {
-        return false;
-    }
-    is_mega_frame(n)
 }
 
 // The label of the packet whose notice has this pointer.
@@ -144,12 +124,13 @@ pub fn label_of(n: u16, pointer: u16) -> Result<u16, Refusal>
     ensures { reply_of result ≡ in_cadence n pointer (label_of n pointer) }
 {
     if pointer < n {
-        return Ok(n - 1 - pointer);
+        Ok(n - 1 - pointer)
+    } else {
+        Err(Refusal::PointerOrIndex)
     }
-    Err(Refusal::PointerOrIndex)
 }
 
-// The pointer that a notice has at this label.
+// The pointer that a notice has at this label: the same map back, under the name that the documents have for it.
 pub fn pointer_of(n: u16, label: u16) -> Result<u16, Refusal>
     ensures { reply_of result ≡ in_cadence n label (pointer_of n label) }
 {

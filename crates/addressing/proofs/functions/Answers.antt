@@ -1,53 +1,19 @@
--- Each turn is one of the five turns of the walk over functions; the invariant carries what it gives to the whole walk.
-use Rattle.std.proofs.Common.{◌≡◌, ◌∙◌, ap, arith, cond, ℕ, ◌+◌, ◌-◌, drop, take, get_or}
-use Rattle.addressing.specs.Functions.{set_by, functions_of}
-use Rattle.addressing.proofs.Turns.{at_least, functions_done, functions_cut, functions_unfit, functions_over, functions_on}
+-- Each turn does the first function, so that the invariant carries what is left to the whole.
+use Rattle.std.proofs.Common.{◌≡◌, ◌∙◌, sym, rules}
+use Rattle.wire.specs.Reply.{reply_of, refused, given, refusal_number}
+use Rattle.addressing.proofs.Turns.{functions_on}
 use Rattle.addressing.proofs.functions.Goals as goal
 
-pub returns-then-left-lt2 : goal.returns-then-left-lt2
-returns-then-left-lt2 c =
-    let a = c.args in
-    let l = c.loop-at in
-    functions_cut a.on a.s.now l.at l.t l.invariant.1 (omega arith) (omega arith) ∙ l.invariant.3
+pub returns-in_err-t : goal.returns-in_err-t
+returns-in_err-t c =
+    let e : reply_of c.from_residual-in_err-t.result ≡ refused (refusal_number c.in_err-t.field-0.0) = search rules in
+    e
+    ∙ sym (functions_on c.args.on c.loop-s.t c.loop-s.s.now c.in_ok-function.function.now c.in_ok-function.rest.now (refused (refusal_number c.in_err-t.field-0.0))
+    c.in-len2-up.len_at_least (rw c.in_ok-function.ensures.ok_part at c.split_at_checked.ensures.cases) (search (rules, c.in_err-t.ensures)))
+    ∙ c.loop-s.invariant
 
-pub returns-then-not-length_fits : goal.returns-then-not-length_fits
-returns-then-not-length_fits c =
-    let a = c.args in
-    let l = c.loop-at in
-    functions_unfit a.on a.s.now l.at l.t c.byte_at-n.result c.byte_at-n.ensures (omega arith) l.invariant.1 (cc) ∙ l.invariant.3
-
-pub returns-then-left-n : goal.returns-then-left-n
-returns-then-left-n c =
-    let a = c.args in
-    let l = c.loop-at in
-    functions_over a.on a.s.now l.at l.t c.byte_at-n.result c.byte_at-n.ensures (omega arith) (cc) l.invariant.1 (omega arith) ∙ l.invariant.3
-
-pub slice_bounds-set_by-count : goal.slice_bounds-set_by-count
-slice_bounds-set_by-count c = omega (arith, at_least (get_or c.args.s.now c.loop-at.at 0) c.byte_at-n.result (cc))
-
-pub slice_bounds-set_by-start : goal.slice_bounds-set_by-start
-slice_bounds-set_by-start c = omega (arith, at_least (get_or c.args.s.now c.loop-at.at 0) c.byte_at-n.result (cc))
-
-pub loop-at-smaller : goal.loop-at-smaller
-loop-at-smaller c = omega (arith, at_least (get_or c.args.s.now c.loop-at.at 0) c.byte_at-n.result (cc))
-
--- the body is what follows tag and length
-body_count : (at n : ℕ) → at + n - (at + 2) ≡ n - 2
-body_count at n = omega arith
-
-pub loop-at-preserved : goal.loop-at-preserved
-loop-at-preserved c =
-    let a = c.args in
-    let l = c.loop-at in
-    let s = a.s.now in
-    let n = c.byte_at-n.result in
-    let o =
-    functions_on a.on s l.at l.t n c.byte_at-n.ensures (omega arith) (cc) l.invariant.1 (functions_of a.on s a.before) c.set_by-t.result l.invariant.2 l.invariant.3 (omega arith)
-    (c.set_by-t.ensures ∙ ap (λ (k : ℕ). cond a.on (set_by (get_or s l.at 0) (take k (drop (l.at + 2) s)) l.t) l.t) (body_count l.at n)) in
-    (omega arith, o.0, o.1, o.2)
-
-pub returns : goal.returns
-returns c =
-    let a = c.args in
-    let l = c.loop-at in
-    functions_done a.on a.s.now l.at l.t l.invariant.1 l.invariant.2 (omega arith) ∙ l.invariant.3
+pub loop-s-preserved : goal.loop-s-preserved
+loop-s-preserved c =
+    sym (functions_on c.args.on c.loop-s.t c.loop-s.s.now c.in_ok-function.function.now c.in_ok-function.rest.now (given c.in_ok-t.t) c.in-len2-up.len_at_least
+    (rw c.in_ok-function.ensures.ok_part at c.split_at_checked.ensures.cases) (search (rules, c.in_ok-t.ensures)))
+    ∙ c.loop-s.invariant

@@ -1,10 +1,10 @@
--- The walk from `at` on gives what the whole walk gives.
-use Rattle.std.proofs.Common.{length, drop, ◌-◌, ◌≡◌, ℕ, ◌≤◌, ◌<◌}
-use Rattle.addressing.specs.Functions.{functions_in, functions_of}
+-- What is left to do of the rest, from what is set so far, is the whole.
+use Rattle.std.proofs.Common.{◌≡◌, length}
+use Rattle.addressing.specs.Functions.{functions_of}
 use Rattle.addressing.proofs.functions.Given as goal
 
-abbrev pub invariant-loop-at : goal.invariant-loop-at
-invariant-loop-at l = (l.at ≤ length l.s) × (f : ℕ) × (length l.s - l.at < f) × (functions_in f l.on (drop l.at l.s) l.t ≡ functions_of l.on l.s l.fn.before)
+abbrev pub invariant-loop-s : goal.invariant-loop-s
+invariant-loop-s l = functions_of l.on l.s l.t ≡ functions_of l.on l.fn.s l.fn.before
 
-abbrev pub decreases-loop-at : goal.decreases-loop-at
-decreases-loop-at l = length l.s - l.at
+abbrev pub decreases-loop-s : goal.decreases-loop-s
+decreases-loop-s l = length l.s

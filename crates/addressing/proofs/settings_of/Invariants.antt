@@ -1,10 +1,10 @@
--- The walk from `at` on gives what the whole walk gives.
-use Rattle.std.proofs.Common.{length, drop, ◌-◌, ◌≡◌, ℕ, ◌≤◌, ◌<◌}
-use Rattle.addressing.specs.Entries.{entries_in, settings_of}
+-- What is left to do of the rest, from what is set so far, is the whole.
+use Rattle.std.proofs.Common.{◌≡◌, length}
+use Rattle.addressing.specs.Entries.{settings_of}
 use Rattle.addressing.proofs.settings_of.Given as goal
 
-abbrev pub invariant-loop-at : goal.invariant-loop-at
-invariant-loop-at l = (l.at ≤ length l.s) × (f : ℕ) × (length l.s - l.at < f) × (entries_in f (drop l.at l.s) l.site l.t ≡ settings_of l.s l.site l.fn.before)
+abbrev pub invariant-loop-s : goal.invariant-loop-s
+invariant-loop-s l = settings_of l.s l.site l.t ≡ settings_of l.fn.s l.site l.fn.before
 
-abbrev pub decreases-loop-at : goal.decreases-loop-at
-decreases-loop-at l = length l.s - l.at
+abbrev pub decreases-loop-s : goal.decreases-loop-s
+decreases-loop-s l = length l.s
