@@ -12,7 +12,7 @@ use wire::{ADDRESSING_START, Refusal};
 
 // What a notice says beside its addressing field.
 #[repr(C)]
-#[derive(Clone, Copy, Default)]
+#[derive(Clone, Copy, PartialEq, Eq, Default)]
 pub struct Notice {
     pub continuity: u8,
     pub pointer: u16,

@@ -40,6 +40,10 @@ module _ (s : Slave) (p : List ℕ) (tick : ℕ) where
   unfolding ready_refusal
   ready_sound e = passed (sound s) _ _ e
 
+  pub ready_is : sound s ≡ true → ready_refusal s p tick ≡ arrival_refusal s.board.profile p tick
+  unfolding ready_refusal
+  ready_is h = rw h
+
   -- a call whose packet is judged so
   abbrev pub judged_call : Judgement → Result Report
   judged_call j = unless15 (sound s) (step_of s (unless_refused (arrival_refusal s.board.profile p tick) j) tick)

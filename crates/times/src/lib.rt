@@ -12,13 +12,17 @@ pub const DVB_SECOND: u32 = 10_000_000;
 
 pub const A110_SECOND: u32 = 0x127_E892;
 
-// The unit of a profile: its second, and its refusal 13, for the profiles do not refuse the same delays.
+// The unit of a profile: the profile's number, its second, and its refusal 13, for the profiles do not refuse the same delays.
 pub trait Unit: Copy {
+    ghost PROFILE: { ℕ };
+
     ghost SECOND: { ℕ };
 
     ghost count: { Self → ℕ };
 
     ghost delay_fits: { Self → ℤ → Self → Bool };
+
+    const PROFILE: u8;
 
     const SECOND: u32;
 
@@ -44,11 +48,15 @@ pub struct Steps(pub u32);
 pub struct Periods(pub u32);
 
 impl Unit for Steps {
+    ghost PROFILE = { 0 };
+
     ghost SECOND = { dvb_second };
 
     ghost count = { steps };
 
     ghost delay_fits = { λ md od tad. delay_fits dvb_second md.0 od };
+
+    const PROFILE: u8 = 0;
 
     const SECOND: u32 = DVB_SECOND;
 
@@ -68,11 +76,15 @@ impl Unit for Steps {
 }
 
 impl Unit for Periods {
+    ghost PROFILE = { 1 };
+
     ghost SECOND = { a110_second };
 
     ghost count = { periods };
 
     ghost delay_fits = { λ md od tad. delay_fits_a110 a110_second md.0 od tad.0 };
+
+    const PROFILE: u8 = 1;
 
     const SECOND: u32 = A110_SECOND;
 

@@ -15,7 +15,7 @@ use Rattle.state.specs.declared.Slave.{Slave}
 use Rattle.judging.proofs.Judging.{arrival_3}
 use Rattle.slave.specs.Answer.{left}
 use Rattle.slave.specs.Calls.{packet_of}
-use Rattle.slave.proofs.Calling.{packet_refused}
+use Rattle.slave.proofs.Calling.{ready_is, packet_is, call_refused}
 use Rattle.vikombare.specs.Flat.{no_tick, tick_on}
 use Rattle.vikombare.specs.declared.Tick.{Tick}
 
@@ -32,4 +32,5 @@ pub other_clock : (s : Slave) (p : List ℕ) (t : Tick) → sound s ≡ true →
     → packet_of s p (tick_on s.board.profile t) ≡ left s (refused 3)
 other_clock s p t h l y d =
     let none : tick_on s.board.profile t ≡ no_tick = ap (λ (b : Bool). cond b t.count no_tick) d in
-    ap (packet_of s p) none ∙ sym (packet_refused s p no_tick h 3 (arrival_3 s.board.profile p no_tick l y (beyond s.board.profile)) (λ e. omega arith))
+    let three = arrival_3 s.board.profile p no_tick l y (beyond s.board.profile) ∙ sym (ready_is s p no_tick h) in
+    ap (packet_of s p) none ∙ sym (call_refused s p no_tick _ 3 three (λ e. omega arith) ∙ packet_is s p no_tick)

@@ -1,3 +1,2 @@
 -- The laws of crate `vikombare`.
 pub mod Clocks
-pub mod Walk

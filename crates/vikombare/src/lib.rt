@@ -18,7 +18,7 @@ use notice::Notice;
 use replies::{PacketReply, Step};
 use slave::Shifted;
 use state::{Board, Slave};
-use times::{Periods, Steps};
+use times::{Periods, Steps, Unit};
 
 // An arrival tick with its clock: profile 0 counts steps of 100 ns, profile 1 bit periods.
 #[repr(C)]
@@ -55,26 +55,15 @@ fn change_of(r: Shifted) -> Change
     }
 }
 
-// The settings of a board of profile 0, and of profile 1.
-fn dvb_board(n: u16, site: u16, tad: Steps) -> Board
-    ensures { result ≡ dvb_board n site tad }
+// The settings of a board whose TAD is in this unit.
+fn board<T: Unit>(n: u16, site: u16, tad: T) -> Board
+    ensures { result ≡ record { profile = T.PROFILE; n = n; site = site; tad = T.count tad } }
 {
     Board {
-        profile: 0,
+        profile: T::PROFILE,
         n,
         site,
-        tad: tad.0,
-    }
-}
-
-fn a110_board(n: u16, site: u16, tad: Periods) -> Board
-    ensures { result ≡ a110_board n site tad }
-{
-    Board {
-        profile: 1,
-        n,
-        site,
-        tad: tad.0,
+        tad: tad.count(),
     }
 }
 
@@ -83,7 +72,7 @@ fn a110_board(n: u16, site: u16, tad: Periods) -> Board
 pub extern "C" fn vikombare_dvb_start_by_value(n: u16, site: u16, tad: Steps) -> Change
     ensures { result ≡ flat_change (start_of (dvb_board n site tad)) }
 {
-    change_of(slave::start(dvb_board(n, site, tad)))
+    change_of(slave::start(board(n, site, tad)))
 }
 
 // Starts a slave of profile 1.
@@ -91,7 +80,7 @@ pub extern "C" fn vikombare_dvb_start_by_value(n: u16, site: u16, tad: Steps) ->
 pub extern "C" fn vikombare_a110_start_by_value(n: u16, site: u16, tad: Periods) -> Change
     ensures { result ≡ flat_change (start_of (a110_board n site tad)) }
 {
-    change_of(slave::start(a110_board(n, site, tad)))
+    change_of(slave::start(board(n, site, tad)))
 }
 
 // The tick as a count of the slave's own clock, or none.
@@ -148,7 +137,7 @@ pub extern "C" fn vikombare_dvb_resume_by_value(
 ) -> Change
     ensures { result ≡ flat_change (resume_of block.now (dvb_board n site tad)) }
 {
-    change_of(saved::resume(block, dvb_board(n, site, tad)))
+    change_of(saved::resume(block, board(n, site, tad)))
 }
 
 // Resumes a saved slave on a board of profile 1.
@@ -161,7 +150,7 @@ pub extern "C" fn vikombare_a110_resume_by_value(
 ) -> Change
     ensures { result ≡ flat_change (resume_of block.now (a110_board n site tad)) }
 {
-    change_of(saved::resume(block, a110_board(n, site, tad)))
+    change_of(saved::resume(block, board(n, site, tad)))
 }
 
 // Reads a notice of profile 0.

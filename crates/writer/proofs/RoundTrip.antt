@@ -32,7 +32,7 @@ use Rattle.notice.specs.Reader.{read_refusal, read_of}
 use Rattle.writer.specs.Writer.{write_refusal, head_of, fields_of, stuffing, mip_of, write_of}
 use Rattle.notice.specs.declared.Notice.{Notice}
 use Rattle.notice.proofs.Sound.{Sound, accepted_sound, sound_reads, reads_sound}
-use Rattle.writer.proofs.Writing.{fields_length, length_stuffing, judged, write_fits, write_none}
+use Rattle.writer.proofs.Writing.{fields_length, length_stuffing, judged, write_none}
 use Rattle.writer.proofs.Front.{head_again}
 
 -- ---- written, then read
@@ -120,7 +120,7 @@ module _ (n : Notice) (f : List ℕ) (space : ℕ) (w : Writable space n f) wher
 -- what an accepted write left in the first 188 bytes of the output is read back as exactly its fields
 module _ (out : List ℕ) (n : Notice) (f : List ℕ) (e : write_refusal (length out) n f ≡ 0) (k : Fits n) where
   fitting : Writable (length out) n f
-  fitting = write_fits (length out) n f e
+  fitting = (judged (length out) n f e).0
 
   left : take packet_length (write_of out n f).bytes ≡ mip_of n f
   unfolding write_of

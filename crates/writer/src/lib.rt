@@ -39,7 +39,11 @@ fn flags_of(n: Notice) -> u16
     requires { n.reserved ≤ 32767 }
     ensures { result ≡ flags_of n }
 {
-    if n.periodic { 32768 + n.reserved } else { n.reserved }
+    if n.periodic {
+        32768 + n.reserved
+    } else {
+        n.reserved
+    }
 }
 
 // Bytes 0 to 20.
@@ -79,7 +83,7 @@ fn head_of(n: Notice, a: u8) -> [u8; ADDRESSING_START]
 }
 
 // Writes a notice into the first 188 bytes of a lent buffer; a refusal leaves it as it was.
-#[tactic(auto, unfolding(crate::specs::Writer::write_of, crate::specs::Writer::mip_of, crate::specs::Writer::fields_of))]
+#[tactic(auto, unfolding(crate::specs::Writer::write_of))]
 pub fn write_notice(out: &mut [u8], n: Notice, field: &[u8]) -> Result<(), Refusal>
     ensures { output_of result out.new ≡ write_of out.old n field.now }
 {
