@@ -39,7 +39,7 @@ pub fn numbers_notice(mut s: Slave, p: &[u8], tick: u32, x: Numbers) -> Stepped
 pub fn packet_step(mut s: Slave, p: &[u8], arrival: u32) -> Step
     ensures { result ≡ flat_step (packet_of s p.now arrival) }
 {
-    let reply = slave::packet(&mut s, p, arrival).into();
+    let reply = slave::packet(&mut s, p, arrival);
     Step { slave: s, reply }
 }
 
@@ -47,6 +47,6 @@ pub fn packet_step(mut s: Slave, p: &[u8], arrival: u32) -> Step
 pub fn numbers_step(mut s: Slave, p: &[u8], tick: u32, x: Numbers) -> Step
     ensures { result ≡ flat_step (numbers_of s p.now tick x) }
 {
-    let reply = slave::numbers_notice(&mut s, p, tick, x).into();
+    let reply = slave::numbers_notice(&mut s, p, tick, x);
     Step { slave: s, reply }
 }

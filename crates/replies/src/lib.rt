@@ -4,10 +4,10 @@
 ghost use Rattle.std.specs.Prelude.{◌≡◌};
 ghost use Rattle.wire.specs.Reply.{refused, number_of, reply_of};
 ghost use Rattle.times.specs.Answer.{times_in};
-ghost use Rattle.slave.specs.Answer.{notice_of, mark_of, report_of, answer_of};
+ghost use Rattle.slave.specs.Answer.{notice_of, mark_of, report_of};
 ghost use Rattle.replies.specs.Flat.{notice_kind, notice_number, no_times, flat_times, flat_mark, flat_report, flat_reply};
 
-use slave::{Counted, MarkPart, NoticePart};
+use slave::{Answer, Counted, MarkPart, NoticePart};
 use state::Slave;
 use times::{Times, Unit};
 use wire::Refusal;
@@ -154,15 +154,15 @@ pub fn number_alone(k: u8) -> PacketReply
     }
 }
 
-// The reply to a packet or a numbers notice.
-impl From<Result<Counted, Refusal>> for PacketReply {
-    ghost from_gives = { λ a r. r ≡ flat_reply (answer_of a) };
+impl Answer for PacketReply {
+    ghost says = { λ a r. a ≡ flat_reply r };
 
-    fn from(answer: Result<Counted, Refusal>) -> PacketReply {
-        match answer {
-            Ok(c) => c.into(),
-            Err(r) => number_alone(r.number()),
-        }
+    fn counted(report: Counted) -> PacketReply {
+        report.into()
+    }
+
+    fn refused(refusal: Refusal) -> PacketReply {
+        number_alone(refusal.number())
     }
 }
 

@@ -15,7 +15,7 @@ use Rattle.state.specs.declared.Waiting.{Waiting}
 use Rattle.state.specs.declared.Slave.{Slave}
 use Rattle.judging.specs.declared.Taken.{Taken}
 use Rattle.slave.specs.Answer.{Notice, ignored, Mark, unmarked, untimed, Report, left}
-use Rattle.slave.specs.Step.{place_of, labelled, past, locked_at, moved_to, release_at, on_mark, mark_at, count_at, kept_at, counted_report, unheard_report, passed, unheard, notice_by, counted, agrees, mark_taken, index_before, index_after, turns, notice_taken, took}
+use Rattle.slave.specs.Step.{place_of, labelled, past, locked_at, moved_to, on_mark, mark_at, count_at, kept_at, counted_report, unheard_report, passed, unheard, notice_by, counted, agrees, mark_taken, index_before, index_after, turns, notice_taken, took}
 
 -- a number of C ignores the notice
 pub notice_ignored : (k : ℕ) → (k ≡ 0 → ⊥) → ignored k ≡ notice_by k

@@ -1,6 +1,6 @@
 -- What the calls of a slave answer: a number that refuses the whole call, or the report on a counted packet: label, notice, mark and M/H place.
 use Rattle.std.specs.Prelude as std
-use Rattle.std.specs.Prelude.{ℕ, Bool, None, Some, Ok, Err}
+use Rattle.std.specs.Prelude.{◌≡◌, ℕ, Bool, None, Some, Ok, Err}
 use Rattle.std.proofs.Math.Option.{Option, none, some}
 use Rattle.wire.specs.declared.Refusal.{Refusal}
 use Rattle.wire.specs.Reply.{Reply, refused, given, refusal_number, reply_of}
@@ -83,3 +83,7 @@ answer_of (Err r) = refused (refusal_number r)
 
 abbrev pub shifted_of : Shifted → Result (Unit {0})
 shifted_of r = left r.slave (reply_of r.outcome)
+
+-- a call leaves this slave, and its answer says this reply: what an answer says is given for each form of answer
+abbrev pub Leaves : {A : Type 0} → (A → Reply Report → Type 0) → Slave → A → Result Report → Type 0
+Leaves says s a r = (s ≡ r.slave) × says a r.reply

@@ -2,9 +2,9 @@
 #![tactic(auto)]
 
 ghost use Rattle.std.specs.Prelude.{◌≡◌, Ok};
-ghost use Rattle.wire.specs.Reply.{refused};
+ghost use Rattle.wire.specs.Reply.{Reply, refused, given, refusal_number};
 ghost use Rattle.state.specs.Slave.{cold};
-ghost use Rattle.slave.specs.Answer.{left, answer_of, shifted_of};
+ghost use Rattle.slave.specs.Answer.{Report, Leaves, left, report_of, answer_of, shifted_of};
 ghost use Rattle.slave.specs.Calls.{start_of, packet_of, numbers_of, gap_of};
 ghost use Rattle.judging.specs.Judge.{judge_arrived, judge_given};
 ghost use Rattle.slave.specs.Step.{step_of};
@@ -43,6 +43,29 @@ pub struct Counted {
     pub turn: bool,
     pub mark: MarkPart,
     pub place: Option<u16>,
+}
+
+// The reply to a packet or a numbers notice, in a caller's form: made of the report on a counted packet, or of what refuses the call.
+pub trait Answer {
+    ghost says: { Self → Reply Report → Type 0 };
+
+    fn counted(report: Counted) -> Self
+        ensures { says result (given (report_of report)) };
+
+    fn refused(refusal: Refusal) -> Self
+        ensures { says result (refused (refusal_number refusal)) };
+}
+
+impl Answer for Result<Counted, Refusal> {
+    ghost says = { λ a r. answer_of a ≡ r };
+
+    fn counted(report: Counted) -> Result<Counted, Refusal> {
+        Ok(report)
+    }
+
+    fn refused(refusal: Refusal) -> Result<Counted, Refusal> {
+        Err(refusal)
+    }
 }
 
 // What a start or a gap leaves and replies.
@@ -162,40 +185,41 @@ pub fn numbers_way(s: Slave, p: &[u8], tick: u32, x: Numbers) -> Result<Way, Ref
     Ok(given(r, p, x))
 }
 
-// What a call with a packet does to a slave, stored in it, and its reply.
+// What a call with a packet does to a slave, stored in it, and its reply. Each arm makes its own reply: one made after them of what they give would go
+// through memory.
 #[inline(always)]
-pub fn apply(s: &mut Slave, way: Result<Way, Refusal>) -> Result<Counted, Refusal>
-    ensures { left s.new (answer_of result) ≡ way_of s.old way }
+fn apply<A: Answer>(s: &mut Slave, way: Result<Way, Refusal>) -> A
+    ensures { Leaves A.says s.new result (way_of s.old way) }
 {
     match way {
-        Ok(Way::Hunts) => Ok(steps::unheard(NoticePart::Absent)),
         Ok(Way::Short(q)) => {
             s.count.next = q.next;
-            Ok(q.report)
+            A::counted(q.report)
         }
+        Ok(Way::Hunts) => A::counted(steps::unheard(NoticePart::Absent)),
         Ok(Way::Marked(m)) => {
             s.count = m.count;
             s.waiting = state::nothing_waiting();
-            Ok(m.report)
+            A::counted(m.report)
         }
         Ok(Way::Moved(m)) => {
             s.settings = m.settings;
             s.count = m.count;
             s.waiting = m.waiting;
-            Ok(m.report)
+            A::counted(m.report)
         }
         Err(Refusal::StartSettings) => {
             *s = state::cold_slave();
-            Err(Refusal::StartSettings)
+            A::refused(Refusal::StartSettings)
         }
-        Err(r) => Err(r),
+        Err(r) => A::refused(r),
     }
 }
 
 // A packet with its arrival tick.
 #[inline(always)]
-pub fn packet(s: &mut Slave, p: &[u8], tick: u32) -> Result<Counted, Refusal>
-    ensures { left s.new (answer_of result) ≡ packet_of s.old p.now tick }
+pub fn packet<A: Answer>(s: &mut Slave, p: &[u8], tick: u32) -> A
+    ensures { Leaves A.says s.new result (packet_of s.old p.now tick) }
 {
     let way = way_of(*s, p, tick);
     apply(s, way)
@@ -203,8 +227,8 @@ pub fn packet(s: &mut Slave, p: &[u8], tick: u32) -> Result<Counted, Refusal>
 
 // A packet that comes with a notice in numbers.
 #[inline(always)]
-pub fn numbers_notice(s: &mut Slave, p: &[u8], tick: u32, x: Numbers) -> Result<Counted, Refusal>
-    ensures { left s.new (answer_of result) ≡ numbers_of s.old p.now tick x }
+pub fn numbers_notice<A: Answer>(s: &mut Slave, p: &[u8], tick: u32, x: Numbers) -> A
+    ensures { Leaves A.says s.new result (numbers_of s.old p.now tick x) }
 {
     let way = numbers_way(*s, p, tick, x);
     apply(s, way)

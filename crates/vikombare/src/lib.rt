@@ -100,7 +100,7 @@ pub extern "C" fn vikombare_packet(s: &mut Slave, p: &[u8], tick: Tick) -> Packe
     ensures { flat_left s.new result ≡ flat_step (packet_of s.old p.now (tick_on s.old.board.profile tick)) }
 {
     let t = tick_on(s.board.profile, tick);
-    slave::packet(s, p, t).into()
+    slave::packet(s, p, t)
 }
 
 // A packet that comes with a notice in numbers, profile 1. The slave is handed back.
