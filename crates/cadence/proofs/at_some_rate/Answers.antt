@@ -7,4 +7,5 @@ use Rattle.cadence.proofs.at_some_rate.Goals as goal
 
 pub returns : goal.returns
 unfolding at_some_rate
-returns c = any_from_yields_List (λ r. eqb c.args.n (length_of c.args.c r)) _ _ _ c.any.ensures.ran (YieldsList-from_slice code_rates cc) (λ x b q k. search (rules, tests))
+returns c =
+    any_from_yields_List (λ r. eqb c.args.n (length_of c.args.c r)) _ _ _ c.any.ensures.ran (YieldsList-from_slice code_rates cc) (λ x b q k. search (rules, tests))
