@@ -140,8 +140,8 @@ fn cold() -> Shifted
 // A packet that arrived right, on a sound slave. Packets and numbers notices have a function each, of one caller, so that the compiler keeps the
 // steps of either out of memory.
 #[tactic(auto, unfolding(crate::specs::Step::step_of, judging::specs::Judge::judge_arrived))]
-fn arrived(r: Ready, p: &[u8]) -> Way
-    ensures { way_of r.slave (Ok result) ≡ step_of r.slave (judge_arrived r.slave.board r.slave.settings p.now) r.tick }
+fn arrived(r: Ready<'_>, p: &[u8]) -> Way
+    ensures { way_of r.entry.slave.now (Ok result) ≡ step_of r.entry.slave.now (judge_arrived r.entry.slave.now.board r.entry.slave.now.settings p.now) r.entry.tick }
 {
     let count = r.slave.count;
     match judging::judge_arrived(r.slave.board, r.slave.settings, p) {
@@ -155,8 +155,8 @@ fn arrived(r: Ready, p: &[u8]) -> Way
 
 // A numbers notice whose packet arrived right, on a sound slave.
 #[tactic(auto, unfolding(crate::specs::Step::step_of, judging::specs::Judge::judge_given))]
-fn given(r: Ready, p: &[u8], x: Numbers) -> Way
-    ensures { way_of r.slave (Ok result) ≡ step_of r.slave (judge_given r.slave.board r.slave.settings p.now x) r.tick }
+fn given(r: Ready<'_>, p: &[u8], x: Numbers) -> Way
+    ensures { way_of r.entry.slave.now (Ok result) ≡ step_of r.entry.slave.now (judge_given r.entry.slave.now.board r.entry.slave.now.settings p.now x) r.entry.tick }
 {
     Way::Moved(match judging::judge_given(r.slave.board, r.slave.settings, p, x) {
         Ok(t) => r.take(t),
@@ -166,8 +166,8 @@ fn given(r: Ready, p: &[u8], x: Numbers) -> Way
 
 // What a packet with its arrival tick does. Each thing is judged once, in document 01's order: 15, then 1 to 3, then 4 and 6 to 13.
 #[tactic(auto, unfolding(crate::specs::Calls::packet_of))]
-pub fn way_of(s: Slave, p: &[u8], tick: u32) -> Result<Way, Refusal>
-    ensures { way_of s result ≡ packet_of s p.now tick }
+pub fn way_of(s: &Slave, p: &[u8], tick: u32) -> Result<Way, Refusal>
+    ensures { way_of s.now result ≡ packet_of s.now p.now tick }
 {
     let r = Ready::new(s, p, tick)?;
     Ok(arrived(r, p))
@@ -175,8 +175,8 @@ pub fn way_of(s: Slave, p: &[u8], tick: u32) -> Result<Way, Refusal>
 
 // What a numbers notice with its packet and arrival tick does: 15, then 1 to 3, 20, 4 and 11 to 13.
 #[tactic(auto, unfolding(crate::specs::Calls::numbers_of))]
-pub fn numbers_way(s: Slave, p: &[u8], tick: u32, x: Numbers) -> Result<Way, Refusal>
-    ensures { way_of s result ≡ numbers_of s p.now tick x }
+pub fn numbers_way(s: &Slave, p: &[u8], tick: u32, x: Numbers) -> Result<Way, Refusal>
+    ensures { way_of s.now result ≡ numbers_of s.now p.now tick x }
 {
     let r = Ready::new(s, p, tick)?;
     if s.board.profile == 0 {
@@ -221,7 +221,7 @@ fn apply<A: Answer>(s: &mut Slave, way: Result<Way, Refusal>) -> A
 pub fn packet<A: Answer>(s: &mut Slave, p: &[u8], tick: u32) -> A
     ensures { Leaves A.says s.new result (packet_of s.old p.now tick) }
 {
-    let way = way_of(*s, p, tick);
+    let way = way_of(s, p, tick);
     apply(s, way)
 }
 
@@ -230,7 +230,7 @@ pub fn packet<A: Answer>(s: &mut Slave, p: &[u8], tick: u32) -> A
 pub fn numbers_notice<A: Answer>(s: &mut Slave, p: &[u8], tick: u32, x: Numbers) -> A
     ensures { Leaves A.says s.new result (numbers_of s.old p.now tick x) }
 {
-    let way = numbers_way(*s, p, tick, x);
+    let way = numbers_way(s, p, tick, x);
     apply(s, way)
 }
 

@@ -9,22 +9,23 @@ ghost use Rattle.slave.specs.Calls.{ready_refusal};
 use state::Slave;
 use wire::Refusal;
 
+// It refers to the slave: a slave within it would be copied through memory for each packet.
 #[derive(Clone, Copy)]
-pub(crate) struct Ready {
-    pub(crate) slave: Slave,
+pub(crate) struct Ready<'a> {
+    pub(crate) slave: &'a Slave,
     pub(crate) tick: u32,
-    pub(crate) ghost is_sound: { sound slave ≡ true },
-    pub(crate) ghost is_in_second: { in_second (second slave.board.profile) tick ≡ true },
+    pub(crate) ghost is_sound: { sound slave.now ≡ true },
+    pub(crate) ghost is_in_second: { in_second (second slave.now.board.profile) tick ≡ true },
 }
 
-impl Ready {
+impl<'a> Ready<'a> {
     // 15, then 1 to 3.
     #[tactic(auto, unfolding(crate::specs::Calls::ready_refusal))]
-    pub(crate) fn new(s: Slave, p: &[u8], tick: u32) -> Result<Ready, Refusal>
-        ensures refusal { number_of (reply_of result) ≡ ready_refusal s p.now tick }
-        ensures value { IfOk result (λ r. (r.slave ≡ s) × (r.tick ≡ tick)) }
+    pub(crate) fn new(s: &'a Slave, p: &[u8], tick: u32) -> Result<Ready<'a>, Refusal>
+        ensures refusal { number_of (reply_of result) ≡ ready_refusal s.now p.now tick }
+        ensures value { IfOk result (λ r. (r.slave.now ≡ s.now) × (r.tick ≡ tick)) }
     {
-        if !state::is_sound(s) {
+        if !state::is_sound(*s) {
             return Err(Refusal::StartSettings);
         }
         judging::check_arrival(s.board.profile, p, tick)?;

@@ -116,11 +116,11 @@ fn second_of(profile: u8) -> u32
     if profile == 1 { times::A110_SECOND } else { times::DVB_SECOND }
 }
 
-impl Ready {
+impl Ready<'_> {
     // The mark on this packet, whose notice waits.
     fn arrival(self) -> Arrival
-        requires { (self.slave.count.phase ≡ 2) × (self.slave.waiting.pending ≡ 1) }
-        ensures { due_of result.u result.sts result.md result.od result.tad result.tick ≡ due_of (second self.slave.board.profile) self.slave.waiting.sts self.slave.waiting.md self.slave.settings.od self.slave.board.tad self.tick }
+        requires { (self.slave.now.count.phase ≡ 2) × (self.slave.now.waiting.pending ≡ 1) }
+        ensures { due_of result.u result.sts result.md result.od result.tad result.tick ≡ due_of (second self.entry.slave.now.board.profile) self.entry.slave.now.waiting.sts self.entry.slave.now.waiting.md self.entry.slave.now.settings.od self.entry.slave.now.board.tad self.entry.tick }
     {
         let s = self.slave;
         Arrival {
@@ -136,8 +136,8 @@ impl Ready {
     // Its release, in the unit of its profile.
     #[tactic(auto, unfolding(crate::specs::Step::release_at))]
     pub(crate) fn release(self) -> MarkPart
-        requires { (self.slave.count.phase ≡ 2) × (self.slave.waiting.pending ≡ 1) }
-        ensures { mark_of result ≡ release_at self.slave self.tick }
+        requires { (self.slave.now.count.phase ≡ 2) × (self.slave.now.waiting.pending ≡ 1) }
+        ensures { mark_of result ≡ release_at self.entry.slave.now self.entry.tick }
     {
         let arrival = self.arrival();
         if self.slave.board.profile == 1 {

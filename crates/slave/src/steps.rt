@@ -172,11 +172,11 @@ fn notice_taken(c: Count, label: u16) -> NoticePart
     NoticePart::Taken
 }
 
-impl Ready {
+impl Ready<'_> {
     // The mark on a packet whose label the slave counted.
     #[tactic(auto, unfolding(crate::specs::Step::mark_at))]
     fn mark(self) -> MarkPart
-        ensures { mark_of result ≡ mark_at self.slave self.tick }
+        ensures { mark_of result ≡ mark_at self.entry.slave.now self.entry.tick }
     {
         let s = self.slave;
         if !on_mark(s.count) {
@@ -191,8 +191,8 @@ impl Ready {
     // A locked slave's packet without a notice, between the marks: the label moves on.
     #[tactic(auto, unfolding(state::specs::Sound::sound, crate::specs::Step::mark_at, crate::specs::Step::counted))]
     pub(crate) fn pass_on(self) -> Short
-        requires { (self.slave.count.phase ≡ 2) × (self.slave.count.next ≡ 0 → ⊥) }
-        ensures { short_of self.slave result ≡ counted self.slave 0 self.tick }
+        requires { (self.slave.now.count.phase ≡ 2) × (self.slave.now.count.next ≡ 0 → ⊥) }
+        ensures { short_of self.entry.slave.now result ≡ counted self.entry.slave.now 0 self.entry.tick }
     {
         let count = self.slave.count;
         Short {
@@ -204,8 +204,8 @@ impl Ready {
     // A mark without a notice of its own: a waiting notice is released, and gone.
     #[tactic(auto, unfolding(state::specs::Sound::sound, crate::specs::Step::mark_at, crate::specs::Step::counted))]
     pub(crate) fn pass_mark(self) -> Marked
-        requires { (self.slave.count.phase ≡ 2) × (self.slave.count.next ≡ 0) }
-        ensures { marked_of self.slave result ≡ counted self.slave 0 self.tick }
+        requires { (self.slave.now.count.phase ≡ 2) × (self.slave.now.count.next ≡ 0) }
+        ensures { marked_of self.entry.slave.now result ≡ counted self.entry.slave.now 0 self.entry.tick }
     {
         let label = self.slave.count.next;
         let after = past(self.slave.count, 1);
@@ -218,7 +218,7 @@ impl Ready {
     // A packet whose notice a number of C ignores: it counts.
     #[tactic(auto, unfolding(state::specs::Sound::sound, crate::specs::Step::mark_at, crate::specs::Step::counted))]
     pub(crate) fn ignore(self, why: Refusal) -> Moved
-        ensures { moved_of self.slave result ≡ counted self.slave (refusal_number why) self.tick }
+        ensures { moved_of self.entry.slave.now result ≡ counted self.entry.slave.now (refusal_number why) self.entry.tick }
     {
         let s = self.slave;
         let notice = NoticePart::Ignored(why);
@@ -235,7 +235,7 @@ impl Ready {
         Moved {
             settings: s.settings,
             count: labelled(after, next_label(s.board.n, label)),
-            waiting: kept_at(s),
+            waiting: kept_at(*s),
             report: counted(label, after.index, notice, self.mark()),
         }
     }
@@ -243,8 +243,8 @@ impl Ready {
     // A notice is taken: its label decides, then the notice and its settings enter.
     #[tactic(auto, unfolding(crate::specs::Step::mark_at, crate::specs::Step::took))]
     pub(crate) fn take(self, t: Taken) -> Moved
-        requires { t.pointer < self.slave.board.n }
-        ensures { moved_of self.slave result ≡ took self.slave t self.tick }
+        requires { t.pointer < self.slave.now.board.n }
+        ensures { moved_of self.entry.slave.now result ≡ took self.entry.slave.now t self.entry.tick }
     {
         let n = self.slave.board.n;
         let count = self.slave.count;

@@ -11,8 +11,8 @@ pub returns-in-Ok-None : goal.returns-in-Ok-None
 unfolding step_of
 returns-in-Ok-None c =
     let r = c.args.r in
-    counts_unheard r.slave 0 r.tick c.if-count-ne2.true _ refl
-    ∙ ap (λ (j : Judgement). step_of r.slave j r.tick) (ap (λ (o : Option Taken). judgement_of (Ok o)) (sym c.in-Ok-None.field-0-is) ∙ c.in-Ok-None.ensures)
+    counts_unheard r.slave.now 0 r.tick c.if-count-ne2.true _ refl
+    ∙ ap (λ (j : Judgement). step_of r.slave.now j r.tick) (ap (λ (o : Option Taken). judgement_of (Ok o)) (sym c.in-Ok-None.field-0-is) ∙ c.in-Ok-None.ensures)
 
 pub take-requires : goal.take-requires
 take-requires c = (arrived_limits _ _ _ _ (sym c.in-Ok-Some.ensures ∙ ap (λ (o : Option Taken). judgement_of (Ok o)) c.in-Ok-Some.field-0-is)).pointer

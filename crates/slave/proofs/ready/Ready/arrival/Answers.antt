@@ -10,13 +10,13 @@ use Rattle.slave.proofs.ready.Ready.arrival.Goals as goal
 
 module _ (r : Ready) where
   abbrev limits : Type 0
-  limits = Kept (second r.slave.board.profile) r.slave.waiting.sts r.slave.waiting.md r.slave.settings.od r.slave.board.tad r.tick
+  limits = Kept (second r.slave.now.board.profile) r.slave.now.waiting.sts r.slave.now.waiting.md r.slave.now.settings.od r.slave.now.board.tad r.tick
 
-  limits_kept : (r.slave.count.phase ≡ 2) × (r.slave.waiting.pending ≡ 1) → limits
-  limits_kept p = pending_kept r.slave r.is_sound p.0 p.1 r.tick r.is_in_second
+  limits_kept : (r.slave.now.count.phase ≡ 2) × (r.slave.now.waiting.pending ≡ 1) → limits
+  limits_kept p = pending_kept r.slave.now r.is_sound p.0 p.1 r.tick r.is_in_second
 
 pub invariant_of-result-clause-u_small : goal.invariant_of-result-clause-u_small
-invariant_of-result-clause-u_small c = omega (arith, c.second_of.ensures, second_small c.args.self.slave.board.profile)
+invariant_of-result-clause-u_small c = omega (arith, c.second_of.ensures, second_small c.args.self.slave.now.board.profile)
 
 pub invariant_of-result-clause-sts_less : goal.invariant_of-result-clause-sts_less
 invariant_of-result-clause-sts_less c = rw c.second_of.ensures (limits_kept c.args.self c.requires).sts_less
@@ -26,7 +26,7 @@ invariant_of-result-clause-md_less c = rw c.second_of.ensures (limits_kept c.arg
 
 pub invariant_of-result-clause-delay_in_second : goal.invariant_of-result-clause-delay_in_second
 invariant_of-result-clause-delay_in_second c =
-    let s = c.args.self.slave in
+    let s = c.args.self.slave.now in
     let od : to_z w16 (of_z w16 s.settings.od) ≡ s.settings.od = search rules in
     ap (λ (z : ℤ). delay_fits c.second_of.result s.waiting.md z) od ∙ rw c.second_of.ensures (limits_kept c.args.self c.requires).delay_in_second
 
@@ -35,6 +35,6 @@ invariant_of-result-clause-tad_less c = rw c.second_of.ensures (limits_kept c.ar
 
 pub returns : goal.returns
 returns c =
-    let s = c.args.self.slave in
+    let s = c.args.self.slave.now in
     let od : to_z w16 (of_z w16 s.settings.od) ≡ s.settings.od = search rules in
     rw (c.second_of.ensures, od)

@@ -9,15 +9,15 @@ use Rattle.slave.proofs.ready.Ready.ignore.Goals as goal
 
 pub returns-then-s-ne2 : goal.returns-then-s-ne2
 returns-then-s-ne2 c =
-    let s = c.args.self.slave in
+    let s = c.args.self.slave.now in
     counts_unheard s _ c.args.self.tick c.if-s-ne2.true _ (c.unheard.ensures ∙ ap unheard_report (notice_ignored _ (refusal_positive c.args.why)))
 
 pub next_label-requires : goal.next_label-requires
-next_label-requires c = (fitting c.args.self.slave c.args.self.is_sound).below
+next_label-requires c = (fitting c.args.self.slave.now c.args.self.is_sound).below
 
 pub returns : goal.returns
 returns c =
-    let s = c.args.self.slave in
+    let s = c.args.self.slave.now in
     let after = c.count_at-after in
     counts_locked s _ c.args.self.tick c.if-s-ne2.false (mark_of c.mark.result) after.result c.labelled.result c.kept_at.result _ c.mark.ensures after.ensures
     (c.labelled.ensures ∙ ap (labelled after.result) c.next_label.ensures) c.kept_at.ensures

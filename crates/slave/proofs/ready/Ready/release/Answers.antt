@@ -8,6 +8,6 @@ use Rattle.slave.proofs.ready.Ready.release.Goals as goal
 pub returns-else-self-eq1 : goal.returns-else-self-eq1
 unfolding release_at
 returns-else-self-eq1 c =
-    let s = c.args.self.slave in
+    let s = c.args.self.slave.now in
     let zero : s.board.profile ≡ 0 = omega (arith, profile_small s.board (settings_kept_lem s c.args.self.is_sound), c.if-self-eq1.false) in
     ap (due 0) (c.due-else-self-eq1.ensures ∙ c.arrival-arrival.ensures) ∙ rw zero

@@ -8,7 +8,7 @@ use Rattle.slave.proofs.ready.Ready.take.Goals as goal
 
 pub returns : goal.returns
 returns c =
-    let s = c.args.self.slave in
+    let s = c.args.self.slave.now in
     let t = c.args.t in
     let label : ℕ = s.board.n - 1 - t.pointer in
     let before = c.index_before-before in
