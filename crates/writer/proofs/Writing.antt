@@ -1,11 +1,12 @@
--- The writer's pieces, put one behind the other, are the packet.
-use mathlib.Core.Path.{◌≡◌, refl, sym, ap, ◌∙◌}
+-- The pieces that the writer puts one over the other are the packet.
+use mathlib.Core.Path.{◌≡◌, refl, sym, ap, ap₂, ◌∙◌}
 use mathlib.Core.Bool.{true}
-use mathlib.Core.List.{List, ◌++◌}
+use mathlib.Core.List.{List, ◌++◌, append_assoc}
 use Prim.Native.Nat.{ℕ, ◌+◌, ◌-◌, ◌≤◌}
 use native.Mathlib.Omega.{arith}
-use lib.ListN.{length, drop, length-append, length-drop, length-replicate}
-use lib.Seq.{take_at}
+use lib.ListN.{length, drop, length-append, length-replicate}
+use lib.Seq.{take_at, drop_at, drop-drop, drop-append-add}
+use Rattle.std.proofs.lemmas.List.{drop-append-le, drop-replicate}
 use Rattle.wire.specs.Standards.{dvb_second}
 use Rattle.wire.specs.Reply.{Reply, given, reply}
 use Rattle.wire.proofs.Tests.{given_zero, given_output}
@@ -14,7 +15,7 @@ use borrow.Rule.Slice.PartMut.{put_mid}
 use Rattle.std.proofs.lemmas.Slice.{overwrites}
 use Rattle.std.proofs.lemmas.Bool.Decides.{nat_tests}
 use borrow.Author.Rules.{rules}
-use Rattle.check_value.proofs.Sealing.{sealed_length, seal_fits}
+use Rattle.check_value.proofs.Sealing.{seal_fits}
 use Rattle.times.specs.Release.{in_second}
 use Rattle.addressing.specs.Entries.{well_formed}
 use Rattle.writer.specs.Writable.{Writable}
@@ -28,31 +29,45 @@ fields_length n f = length-append (head_of n (length f)) f
 pub length_stuffing : (k : ℕ) → length (stuffing k) ≡ k
 length_stuffing k = length-replicate {A = ℕ} k 255
 
--- p stands at the front of d; x, of k bytes, is put right behind it
-behind : (p x d : List ℕ) (at k end : ℕ) → length p ≡ at → length x ≡ k → at + k ≡ end
-    → put_mid at k (p ++ drop at d) x ≡ (p ++ x) ++ drop end d
-behind p x d at k end e g h = search (rules, overwrites)
+-- k bytes behind p are written over
+over : (p t x : List ℕ) (at k : ℕ) → length p ≡ at → put_mid at k (p ++ t) x ≡ p ++ (x ++ drop k t)
+over p t x at k e = search (rules, overwrites, take_at, drop_at)
 
--- and the check value of p
-sealed_behind : (p d : List ℕ) (end : ℕ) → length p ≡ end → end + 4 ≤ length d → sealed_at end (p ++ drop end d) ≡ sealed p ++ drop (end + 4) d
-sealed_behind p d end e h =
-    seal_fits end (p ++ drop end d) (omega (arith, length-append p (drop end d), length-drop end d)) ∙ search (rules, overwrites, take_at)
+-- and four bytes by the check value of p
+over_sealed : (p t : List ℕ) (end : ℕ) → length p ≡ end → 4 ≤ length t → sealed_at end (p ++ t) ≡ sealed p ++ drop 4 t
+over_sealed p t end e h =
+    seal_fits end (p ++ t) (omega (arith, length-append p t))
+    ∙ ap₂ (λ (x y : List ℕ). sealed x ++ y) (take_at p t end e) (ap (λ (j : ℕ). drop (j + 4) (p ++ t)) (sym e) ∙ drop-append-add p t 4)
 
--- the whole packet: the head and the addressing field, the check value behind them, and stuffing
+-- stuffing that is written over at its front
+drop_stuffing : (k m : ℕ) (t : List ℕ) → drop k (stuffing (k + m) ++ t) ≡ stuffing m ++ t
+drop_stuffing k m t =
+    drop-append-le k (stuffing (k + m)) t (omega (arith, length_stuffing (k + m)))
+    ∙ ap (λ (x : List ℕ). x ++ t) (drop-replicate k (k + m) 255 ∙ ap stuffing (omega arith))
+
+-- the whole packet: the head, stuffing, and over it the addressing field and the check value
 pub packet_put : (n : Notice) (f d d' : List ℕ) → length f ≤ 163 → 188 ≤ length d
-    → d' ≡ sealed_at (21 + length f) (put_mid 21 (21 + length f - 21) (head_of n (length f) ++ drop 21 d) f)
-    → put_mid (21 + length f + 4) (188 - (21 + length f + 4)) d' (stuffing (188 - (21 + length f + 4))) ≡ mip_of n f ++ drop 188 d
+    → d' ≡ sealed_at (21 + length f) (put_mid 21 (21 + length f - 21) (put_mid 21 167 (head_of n (length f) ++ drop 21 d) (stuffing 167)) f)
+    → d' ≡ mip_of n f ++ drop 188 d
 unfolding mip_of fields_of head_of
 packet_put n f d d' short room e =
     let a = length f in
-    let k = 188 - (21 + a + 4) in
-    let fields = fields_of n f in
-    let body : d' ≡ sealed fields ++ drop (21 + a + 4) d =
-    e ∙ ap (sealed_at (21 + a)) (behind (head_of n a) f d 21 (21 + a - 21) (21 + a) refl (omega arith) (omega arith))
-    ∙ sealed_behind fields d (21 + a) (fields_length n f) (omega arith) in
-    ap (λ (x : List ℕ). put_mid (21 + a + 4) k x (stuffing k)) body
-    ∙ behind (sealed fields) (stuffing k) d (21 + a + 4) k 188 (omega (arith, sealed_length fields, fields_length n f)) (length_stuffing k) (omega arith)
-    ∙ ap (λ (j : ℕ). (sealed fields ++ stuffing j) ++ drop 188 d) (omega arith)
+    let m = 163 - a in
+    let h = head_of n a in
+    let t = drop 188 d in
+    let front : put_mid 21 167 (h ++ drop 21 d) (stuffing 167) ≡ h ++ (stuffing 167 ++ t) =
+    over h (drop 21 d) (stuffing 167) 21 167 refl ∙ ap (λ (x : List ℕ). h ++ (stuffing 167 ++ x)) (drop-drop 167 21 d) in
+    let k : 21 + a - 21 ≡ a = omega arith in
+    let most : 167 ≡ a + (4 + m) = omega arith in
+    let field : put_mid 21 (21 + a - 21) (h ++ (stuffing 167 ++ t)) f ≡ fields_of n f ++ (stuffing (4 + m) ++ t) =
+    ap₂ (λ (i j : ℕ). put_mid 21 i (h ++ (stuffing j ++ t)) f) k most
+    ∙ over h (stuffing (a + (4 + m)) ++ t) f 21 a refl ∙ ap (λ (x : List ℕ). fields_of n f ++ x) (drop_stuffing a (4 + m) t) in
+    e
+    ∙ ap (λ (x : List ℕ). sealed_at (21 + a) (put_mid 21 (21 + a - 21) x f)) front
+    ∙ ap (sealed_at (21 + a)) field
+    ∙ over_sealed (fields_of n f) (stuffing (4 + m) ++ t) (21 + a) (fields_length n f) (omega (arith, length-append (stuffing (4 + m)) t, length_stuffing (4 + m)))
+    ∙ ap (λ (x : List ℕ). sealed (fields_of n f) ++ x) (drop_stuffing 4 m t)
+    ∙ sym (append_assoc (sealed (fields_of n f)) (stuffing m) t)
 
 -- an accepted write gives it
 pub written : (n : Notice) (f d d' : List ℕ) → ◌≡◌ {A = Reply (Unit {0})} (given (tt {0})) (reply (write_refusal (length d) n f) (tt {0}))

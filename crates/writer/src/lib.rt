@@ -8,7 +8,7 @@ ghost use Rattle.writer.specs.Writable.{Writable};
 ghost use Rattle.writer.specs.Writer.{write_refusal, flags_of, head_of, write_of, output_of};
 
 use notice::Notice;
-use wire::{ADDRESSING_START, CHECK_LENGTH, LONGEST_ADDRESSING, PACKET_LENGTH, Refusal};
+use wire::{ADDRESSING_START, LONGEST_ADDRESSING, PACKET_LENGTH, Refusal};
 
 // 18, 19, 8, 10 and 11: the room, the notice's fields, the addressing field and the times.
 #[tactic(auto, unfolding(crate::specs::Writer::write_refusal))]
@@ -90,8 +90,9 @@ pub fn write_notice(out: &mut [u8], n: Notice, field: &[u8]) -> Result<(), Refus
     check_write(out.len(), n, field)?;
     let end = ADDRESSING_START + field.len();
     out[..ADDRESSING_START].copy_from_slice(&head_of(n, field.len() as u8));
+    // The stuffing goes first, where its length is a constant, and the field and the check value over it.
+    out[ADDRESSING_START..PACKET_LENGTH].fill(0xFF);
     out[ADDRESSING_START..end].copy_from_slice(field);
     check_value::seal(out, end);
-    out[end + CHECK_LENGTH..PACKET_LENGTH].fill(0xFF);
     Ok(())
 }
