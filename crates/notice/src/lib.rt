@@ -23,7 +23,8 @@ pub struct Notice {
     pub tps: u32,
 }
 
-// The fields of table 1, in its order, each as its definition in specs/Mip.antt says; bytes beyond the end read as 0.
+// The fields of table 1, in its order, each as its definition in specs/Mip.antt says; bytes beyond the end read as 0. Those that differ only in their place
+// stay apart: each stands for a line of the table, and what they have in common is in crate `wire`.
 fn sync(p: &[u8]) -> u8
     ensures { result ≡ sync p.now }
 {

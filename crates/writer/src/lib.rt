@@ -52,6 +52,7 @@ fn head_of(n: Notice, a: u8) -> [u8; ADDRESSING_START]
     requires { (n.continuity ≤ 15) × (n.reserved ≤ 32767) × (a ≤ longest_addressing) }
     ensures { result ≡ head_of n a }
 {
+    // Each `as u8` here and below is proved to lose nothing; a `try_from` would answer what never comes.
     let [p1, p0] = n.pointer.to_be_bytes();
     let [f1, f0] = flags_of(n).to_be_bytes();
     let [_, s2, s1, s0] = n.sts.0.to_be_bytes();
