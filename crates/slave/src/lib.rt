@@ -239,7 +239,7 @@ pub fn numbers_notice<A: Answer>(s: &mut Slave, p: &[u8], tick: u32, x: Numbers)
 pub fn gap(s: Slave, k: u16) -> Shifted
     ensures { shifted_of result ≡ gap_of s k }
 {
-    if state::is_sound(s) {
+    if state::is_sound(&s) {
         return Shifted {
             slave: gaps::gapped(s, k),
             outcome: Ok(()),

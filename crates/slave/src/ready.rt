@@ -25,7 +25,7 @@ impl<'a> Ready<'a> {
         ensures refusal { number_of (reply_of result) ≡ ready_refusal s.now p.now tick }
         ensures value { IfOk result (λ r. (r.slave.now ≡ s.now) × (r.tick ≡ tick)) }
     {
-        if !state::is_sound(*s) {
+        if !state::is_sound(s) {
             return Err(Refusal::StartSettings);
         }
         judging::check_arrival(s.board.profile, p, tick)?;

@@ -121,6 +121,7 @@ pub fn delay_kept(b: Board, md: u32, od: i16) -> bool
 
 // The limits of a start's settings.
 #[tactic(auto, unfolding(crate::specs::Profile::settings_kept))]
+#[inline(always)]
 pub fn settings_kept(b: Board) -> bool
     ensures { result ≡ settings_kept b }
 {
@@ -145,8 +146,8 @@ fn index_fits(profile: u8, index: u8) -> bool
 
 // Nothing, or a pending notice that is in range and satisfies 13.
 #[tactic(auto, unfolding(crate::specs::Sound::waiting_fits, crate::specs::Sound::is_nothing))]
-fn waiting_fits(s: Slave) -> bool
-    ensures { result ≡ waiting_fits s.board s.settings.od s.waiting }
+fn waiting_fits(s: &Slave) -> bool
+    ensures { result ≡ waiting_fits s.now.board s.now.settings.od s.now.waiting }
 {
     let b = s.board;
     let w = s.waiting;
@@ -161,8 +162,8 @@ fn waiting_fits(s: Slave) -> bool
 
 // A locked slave's parts are in their ranges.
 #[tactic(auto, unfolding(crate::specs::Sound::locked_fits))]
-fn locked_fits(s: Slave) -> bool
-    ensures { result ≡ locked_fits s.board s.settings s.count s.waiting }
+fn locked_fits(s: &Slave) -> bool
+    ensures { result ≡ locked_fits s.now.board s.now.settings s.now.count s.now.waiting }
 {
     frequency_fits(s.settings.frequency)
         && s.count.next < s.board.n
@@ -172,20 +173,22 @@ fn locked_fits(s: Slave) -> bool
 
 // The parts besides the start's settings: a slave that hunts is as its start left it.
 #[tactic(auto, unfolding(crate::specs::Sound::parts_fit, crate::specs::Sound::hunting_fits, crate::specs::Sound::is_unset, crate::specs::Sound::is_zero, crate::specs::Sound::is_uncounted, crate::specs::Sound::is_nothing))]
-pub fn parts_fit(s: Slave) -> bool
-    ensures { result ≡ parts_fit s }
+#[inline(always)]
+pub fn parts_fit(s: &Slave) -> bool
+    ensures { result ≡ parts_fit s.now }
 {
     match s.count.phase {
-        1 => s == hunting_slave(s.board),
+        1 => *s == hunting_slave(s.board),
         2 => locked_fits(s),
         _ => false,
     }
 }
 
-// A slave whose parts a saved body may hold.
+// A slave whose parts a saved body may hold. Inlined, so that a packet's call reads each part where it lies.
 #[tactic(auto, unfolding(crate::specs::Sound::sound))]
-pub fn is_sound(s: Slave) -> bool
-    ensures { result ≡ sound s }
+#[inline(always)]
+pub fn is_sound(s: &Slave) -> bool
+    ensures { result ≡ sound s.now }
 {
     settings_kept(s.board) && parts_fit(s)
 }
