@@ -194,25 +194,25 @@ fn apply<A: Answer>(s: &mut Slave, way: Result<Way, Refusal>) -> A
     match way {
         Ok(Way::Short(q)) => {
             s.count.next = q.next;
-            A::counted(q.report)
+            return A::counted(q.report);
         }
-        Ok(Way::Hunts) => A::counted(steps::unheard(NoticePart::Absent)),
+        Ok(Way::Hunts) => return A::counted(steps::unheard(NoticePart::Absent)),
         Ok(Way::Marked(m)) => {
             s.count = m.count;
             s.waiting = state::nothing_waiting();
-            A::counted(m.report)
+            return A::counted(m.report);
         }
         Ok(Way::Moved(m)) => {
             s.settings = m.settings;
             s.count = m.count;
             s.waiting = m.waiting;
-            A::counted(m.report)
+            return A::counted(m.report);
         }
         Err(Refusal::StartSettings) => {
             *s = state::cold_slave();
-            A::refused(Refusal::StartSettings)
+            return A::refused(Refusal::StartSettings);
         }
-        Err(r) => A::refused(r),
+        Err(r) => return A::refused(r),
     }
 }
 

@@ -16,9 +16,10 @@ ghost use Rattle.vikombare.specs.Flat.{tick_on, flat_change, dvb_board, a110_boa
 use judging::Numbers;
 use notice::Notice;
 use replies::{PacketReply, Step};
-use slave::Shifted;
+use slave::{Shifted, Way};
 use state::{Board, Slave};
 use times::{Periods, Steps, Unit};
+use wire::Refusal;
 
 // An arrival tick with its clock: profile 0 counts steps of 100 ns, profile 1 bit periods.
 #[repr(C)]
@@ -100,7 +101,33 @@ pub extern "C" fn vikombare_packet(s: &mut Slave, p: &[u8], tick: Tick) -> Packe
     ensures { flat_left s.new result ≡ flat_step (packet_of s.old p.now (tick_on s.old.board.profile tick)) }
 {
     let t = tick_on(s.board.profile, tick);
-    slave::packet(s, p, t)
+    match slave::way_of(s, p, t) {
+        Ok(Way::Short(q)) => {
+            s.count.next = q.next;
+            return q.report.into();
+        }
+        Ok(Way::Hunts) => {
+            return replies::number_alone(0);
+        }
+        Ok(Way::Marked(m)) => {
+            s.count = m.count;
+            s.waiting = state::nothing_waiting();
+            return m.report.into();
+        }
+        Ok(Way::Moved(m)) => {
+            s.settings = m.settings;
+            s.count = m.count;
+            s.waiting = m.waiting;
+            return m.report.into();
+        }
+        Err(Refusal::StartSettings) => {
+            *s = state::cold_slave();
+            return replies::number_alone(15);
+        }
+        Err(r) => {
+            return replies::number_alone(r.number());
+        }
+    }
 }
 
 // A packet that comes with a notice in numbers, profile 1. The slave is handed back.
