@@ -1,10 +1,11 @@
 -- A block that fits, test by test.
 use mathlib.Core.Path.{◌≡◌}
-use mathlib.Core.Bool.{Bool, true, ◌&&◌}
+use mathlib.Core.Bool.{true}
 use mathlib.Core.List.{List}
 use Prim.Native.Nat.{ℕ}
-use lib.Dec.{eqb}
-use Rattle.std.proofs.lemmas.Bool.{and_parts, eq-eqb, eqb-true}
+use native.Mathlib.Omega.{arith}
+use Rattle.std.proofs.lemmas.Bool.{eq-eqb}
+use Rattle.std.proofs.lemmas.Bool.Decides.{nat_tests}
 use Rattle.check_value.specs.Register.{register}
 use Rattle.state.specs.Sound.{sound}
 use Rattle.saved.specs.Block.{trailer_site, shaped, from_body, held, block_fits}
@@ -23,8 +24,4 @@ pub record Fitting (b : List ℕ) : Type 0 where
 pub fitting : (b : List ℕ) → block_fits b ≡ true → Fitting b
 unfolding block_fits
 fitting b e =
-    let shape_check : Bool = shaped b && eqb (register (from_body b)) 0 in
-    let p = and_parts (shape_check && eqb (trailer_site b) (held b).board.site) _ e in
-    let q = and_parts shape_check _ p.0 in
-    let r = and_parts (shaped b) _ q.0 in
-    record { shape = r.0; check = eqb-true _ _ r.1; site = eqb-true _ _ q.1; is_sound = p.1 }
+    record { shape = grind (arith, nat_tests); check = grind (arith, nat_tests); site = grind (arith, nat_tests); is_sound = grind (arith, nat_tests) }

@@ -5,14 +5,14 @@
 --                     leave the cold slave (Answers.resume_15)
 --     one_bit         a saved block of exactly its own bytes with one bit flipped gives 16
 use mathlib.Core.Path.{◌≡◌, refl, sym, ap, ◌∙◌, subst}
-use mathlib.Core.Bool.{Bool, true, false, ◌&&◌}
+use mathlib.Core.Bool.{Bool, true, false}
 use mathlib.Core.List.{List, [], ◌++◌}
 use Prim.Native.Nat.{ℕ, ◌+◌, ◌-◌, ◌<◌}
 use native.Mathlib.Omega.{arith}
-use lib.Dec.{eqb}
 use lib.ListN.{length, take, drop, length-append, length-set}
 use lib.Seq.{take_at, drop-append_seam, drop-append-add}
-use Rattle.std.proofs.lemmas.Bool.{and_parts, and_from, false_from_ne_true, eq-eqb, eqb-true, le-leb}
+use Rattle.std.proofs.lemmas.Bool.{false_from_ne_true}
+use Rattle.std.proofs.lemmas.Bool.Decides.{nat_tests}
 use Rattle.wire.specs.Reply.{refused, given}
 use Rattle.wire.specs.BigEndian.{be16_at, bytes16, bytes32}
 use Rattle.wire.proofs.Numbers.{spelled16}
@@ -70,10 +70,7 @@ module _ (s : Slave) (f : Fits s) where
 
     own_shape : shaped whole ≡ true
     unfolding shaped
-    own_shape =
-        and_from _ _
-        (le-leb body_length (distance whole) (omega (arith, own_distance)))
-        (le-leb (distance whole + trailer_length) (length whole) (omega (arith, own_distance, behind_length)))
+    own_shape = grind (arith, nat_tests, own_distance, behind_length)
 
     own_body : from_body whole ≡ block_of s
     unfolding from_body
@@ -119,21 +116,11 @@ exact d h e =
 
 one_board : (a b : Board) → same_board a b ≡ true → a ≡ b
 unfolding same_board
-one_board a b e =
-    let p = and_parts (eqb a.site b.site && eqb a.profile b.profile && eqb a.n b.n) _ e in
-    let q = and_parts (eqb a.site b.site && eqb a.profile b.profile) _ p.0 in
-    let r = and_parts (eqb a.site b.site) _ q.0 in
-    λ i.
-    record {
-      profile = eqb-true a.profile b.profile r.1 i;
-      n = eqb-true a.n b.n q.1 i;
-      site = eqb-true a.site b.site r.0 i;
-      tad = eqb-true a.tad b.tad p.1 i;
-    }
+one_board a b e = grind (arith, nat_tests)
 
 own_board : (b : Board) → same_board b b ≡ true
 unfolding same_board
-own_board b = rw (eq-eqb b.site b.site refl, eq-eqb b.profile b.profile refl, eq-eqb b.n b.n refl, eq-eqb b.tad b.tad refl)
+own_board b = grind (arith, nat_tests)
 
 module _ (s : Slave) (f : Fits s) (out : List ℕ) (e : (save_of s out).reply ≡ given tt) where
   abbrev block : List ℕ

@@ -96,7 +96,7 @@ fn site_and_body(block: &[u8]) -> Option<(u16, &[u8])>
     let distance = wire::number16_at(trailer, 2) as usize;
     let start = front.len().checked_sub(distance)?;
     let rest = &block[start..];
-    // the distance is below BODY_LENGTH; asked of the bytes, so that the compiler knows each part of the body to lie within them
+    // a distance below BODY_LENGTH, asked of the bytes: the compiler then knows that each part of the body lies within them
     if rest.len() < BLOCK_LENGTH {
         return None;
     }
