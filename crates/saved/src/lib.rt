@@ -44,7 +44,7 @@ fn put_body(out: &mut [u8], s: Slave)
 pub fn save(s: Slave, out: &mut [u8]) -> Result<(), Refusal>
     ensures { saved_output result out.new ≡ save_of s out.old }
 {
-    if !state::is_sound(s) {
+    if !state::is_sound(&s) {
         return Err(Refusal::StartSettings);
     }
     if out.len() < BLOCK_LENGTH {
@@ -110,7 +110,7 @@ fn held(block: &[u8], b: Board) -> Result<Slave, Refusal>
 {
     let (site, body) = site_and_body(block).ok_or(Refusal::SavedBlock)?;
     let s = slave_in(body);
-    let fits = check_value::register_of(body) == 0 && site == s.board.site && state::is_sound(s);
+    let fits = check_value::register_of(body) == 0 && site == s.board.site && state::is_sound(&s);
     if !fits {
         return Err(Refusal::SavedBlock);
     }
