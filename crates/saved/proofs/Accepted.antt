@@ -3,14 +3,13 @@
 --     accepted_block   and with save's distance, body through check value are exactly what that slave saves
 use mathlib.Core.Path.{◌≡◌, sym, ap, ap₂, ◌∙◌}
 use mathlib.Core.Bool.{true}
-use mathlib.Core.List.{List, [], ◌∷◌, ◌++◌}
-use Prim.Native.Nat.{ℕ, ◌+◌, ◌-◌, ◌<◌}
+use mathlib.Core.List.{List, ◌++◌}
+use Prim.Native.Nat.{ℕ, ◌+◌, ◌-◌}
 use native.Mathlib.Omega.{arith}
 use lib.ListN.{length, take, drop, get_or}
 use lib.Seq.{take_all, get_or-drop, drop-drop}
 use Rattle.wire.specs.Reply.{given}
 use Rattle.wire.specs.BigEndian.{be16, be16_at, bytes16}
-use Rattle.wire.proofs.Numbers.{of16}
 use Rattle.wire.proofs.Tests.{passed, given_zero}
 use Rattle.wire.proofs.Bytes.{Bytes, drop_bytes, elements, elements_are}
 use Rattle.check_value.specs.Register.{register, sealed}
@@ -18,20 +17,17 @@ use Rattle.check_value.proofs.Laws.{zero_only}
 use Rattle.state.specs.Profile.{settings_kept}
 use Rattle.state.specs.declared.Board.{Board}
 use Rattle.slave.specs.Answer.{Result}
-use Rattle.saved.specs.Layout.{body_length, body_of, slave_in}
+use Rattle.saved.specs.Layout.{body_length, pair, body_of, slave_in}
 use Rattle.saved.specs.Block.{trailer_length, block_length, covered_of, block_of, trailer, distance, from_body, held, block_fits, same_board, resume_refusal, resume_of}
-use Rattle.saved.proofs.Body.{body_again}
+use Rattle.saved.proofs.Body.{field_again, body_again}
 use Rattle.saved.proofs.Shape.{shape_room, body_length_lem}
 use Rattle.saved.proofs.Fitting.{fitting}
 use Rattle.saved.proofs.Answers.{resume_held}
 
-pair_again : (a b : ℕ) → a < 256 → b < 256 → bytes16 (be16 a b) ≡ a ∷ b ∷ []
-pair_again a b ha hb = let p = of16 a b ha hb in λ i. p.0 i ∷ p.1 i ∷ []
-
 -- bytes of a block's length that leave zero, with the body's site and save's distance behind the body
 module _ (c : List ℕ) (bytes : Bytes c) (long : length c ≡ block_length) (zero : register c ≡ 0)
     (site : be16_at c body_length ≡ (slave_in c).board.site) (far : be16_at c (body_length + 2) ≡ body_length) where
-  -- the bytes of the two numbers, and of the check value
+  -- the bytes of the check value
   abbrev at : ℕ → ℕ
   at k = get_or c (body_length + k) 0
 
@@ -39,8 +35,8 @@ module _ (c : List ℕ) (bytes : Bytes c) (long : length c ≡ block_length) (ze
   unfolding covered_of
   covered_again =
       ap₂ ◌++◌
-      (ap₂ ◌++◌ (body_again c bytes) (ap bytes16 (sym site) ∙ pair_again (at 0) (at 1) (bytes body_length) (bytes (body_length + 1))))
-      (ap bytes16 (sym far) ∙ pair_again (at 2) (at 3) (bytes (body_length + 2)) (bytes (body_length + 3)))
+      (ap₂ ◌++◌ (body_again c bytes) (ap bytes16 (sym site) ∙ field_again c bytes (pair body_length)))
+      (ap bytes16 (sym far) ∙ field_again c bytes (pair (body_length + 2)))
 
   whole : elements block_length 0 c ≡ c
   whole = sym (elements_are block_length 0 c (omega arith)) ∙ take_all block_length c (omega arith)

@@ -44,23 +44,16 @@ unfolding covered_of body_of
 covered_length s = refl
 
 -- body, site and distance put at the front, and sealed
-pub block_put : (s : Slave) (d d₁ d₂ d₃ d₄ : List ℕ) → block_length ≤ length d
-    → d₁ ≡ put_all d (body_fields s)
-    → d₂ ≡ put_in d₁ (pair body_length) s.board.site
-    → d₃ ≡ put_in d₂ (pair (body_length + 2)) body_length
-    → d₄ ≡ sealed_at (block_length - 4) d₃
-    → d₄ ≡ block_of s ++ drop block_length d
+pub block_put : (s : Slave) (d : List ℕ) → block_length ≤ length d
+    → sealed_at (block_length - 4) (put_in (put_in (put_all d (body_fields s)) (pair body_length) s.board.site) (pair (body_length + 2)) body_length)
+    ≡ block_of s ++ drop block_length d
 unfolding covered_of block_of body_of
-block_put s d d₁ d₂ d₃ d₄ h e₁ e₂ e₃ e₄ =
-    let site : ℕ = s.board.site in
+block_put s d h =
     let at : ℕ = block_length - 4 in
-    let covered : d₃ ≡ covered_of s ++ drop at d =
-    e₃
-    ∙ ap (λ (x : List ℕ). put_in x (pair (body_length + 2)) body_length) (e₂ ∙ ap (λ (x : List ℕ). put_in x (pair body_length) site) e₁)
-    ∙ put_packed d (body_fields s ++ (pair body_length, site) ∷ (pair (body_length + 2), body_length) ∷ []) 0 [] refl refl (omega arith) in
+    let covered : put_in (put_in (put_all d (body_fields s)) (pair body_length) s.board.site) (pair (body_length + 2)) body_length ≡ covered_of s ++ drop at d =
+    put_packed d (body_fields s ++ (pair body_length, s.board.site) ∷ (pair (body_length + 2), body_length) ∷ []) 0 [] refl refl (omega arith) in
     let front : take at (covered_of s ++ drop at d) ≡ covered_of s = take_at (covered_of s) (drop at d) at (covered_length s) in
-    e₄
-    ∙ ap (sealed_at at) covered
+    ap (sealed_at at) covered
     ∙ seal_fits at (covered_of s ++ drop at d) (omega (arith, length-append (covered_of s) (drop at d), covered_length s, length-drop at d))
     ∙ ap (λ (x : List ℕ). take at (covered_of s ++ drop at d) ++ bytes32 (register x) ++ drop block_length (covered_of s ++ drop at d)) front
     ∙ put_behind (covered_of s) (bytes32 (register (covered_of s))) d at (covered_length s)

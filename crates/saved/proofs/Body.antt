@@ -4,14 +4,15 @@ use mathlib.Core.Bool.{Bool, true, false, cond, ◌&&◌}
 use mathlib.Core.List.{List, [], ◌∷◌, ◌++◌, append_assoc, append-nil}
 use Prim.Native.Nat.{ℕ, ◌+◌, ◌≤◌, ◌<◌, ◌^◌}
 use native.Mathlib.Omega.{arith}
-use lib.Dec.{eqb, ltb, leb}
-use lib.ListN.{length, drop, get_or, length-append, length-take, length-drop}
+use lib.Dec.{eqb, ltb}
+use lib.ListN.{length, drop, get_or, length-append, length-drop}
 use lib.Seq.{get_or-drop, drop-drop, drop_at}
 use lib.Signed.{mag}
-use borrow.Author.Tests.{eqb-true, ltb-true, leb-true}
+use Rattle.std.specs.Prelude.{ℤ, pos, negsuc}
+use Rattle.std.specs.Int.{w16, w32, cast_unsigned}
+use Rattle.std.proofs.lemmas.Bool.{and_parts, cond_both, eqb-true, ltb-true}
 use Rattle.wire.specs.BigEndian.{be16, be32}
-use Rattle.wire.specs.Put.{put_at}
-use Rattle.wire.proofs.Tests.{both, split}
+use Rattle.wire.specs.Signed.{bits16, bits32}
 use Rattle.wire.proofs.Numbers.{spelled16, spelled32, of16, of32, signed_bits, bits_signed}
 use Rattle.wire.proofs.Bytes.{Bytes, no_bytes, and_byte, and_bytes, bytes_16, bytes_32, elements}
 use Rattle.wire.proofs.Puts.{put_fits, put_behind}
@@ -58,7 +59,7 @@ field_bytes (word i) v h = bytes_32 v
 fields_bytes : (fs : List (Field × ℕ)) → in_range fs ≡ true → Bytes (written fs)
 fields_bytes [] r = no_bytes
 fields_bytes (f ∷ fs) r =
-    let q = both (ltb f.1 (range_of f.0)) _ r in
+    let q = and_parts (ltb f.1 (range_of f.0)) _ r in
     and_bytes (bytes_in f.0 f.1) (written fs) (field_bytes f.0 f.1 (ltb-true _ _ q.0)) (fields_bytes fs q.1)
 
 pub body_bytes : (s : Slave) → Fits s → Bytes (body_of s)
@@ -88,7 +89,7 @@ module _ (d : List ℕ) where
       let x : List ℕ = bytes_in f.0 f.1 in
       let i : ℕ = first_byte f.0 in
       let w : ℕ = width_of f.0 in
-      let t = both (eqb i k) _ q in
+      let t = and_parts (eqb i k) _ q in
       let at : i ≡ k = eqb-true i k t.0 in
       let more : k + w + widths fs ≡ k + (w + widths fs) = omega arith in
       let put : put_in (p ++ drop k d) f.0 f.1 ≡ p ++ x ++ drop (k + w) d =
@@ -99,24 +100,14 @@ module _ (d : List ℕ) where
       ∙ put_packed fs (k + w) (p ++ x) (length-append p x ∙ ap₂ ◌+◌ e (field_length f.0 f.1)) t.1 (omega arith)
       ∙ ap₂ ◌++◌ (append_assoc p x (written fs)) (ap (λ (n : ℕ). drop n d) more)
 
--- a field put over bytes that are known, with a number that is
-pub after : (f : Field) (v : ℕ) {d d' e : List ℕ} → e ≡ put_in d f v → d ≡ d' → e ≡ put_in d' f v
-after f v p q = p ∙ ap (λ (l : List ℕ). put_in l f v) q
+-- the bits of a signed number, as the library has them
+pub cast_16 : (z : ℤ) → cast_unsigned w16 z ≡ bits16 z
+cast_16 (pos v) = refl
+cast_16 (negsuc v) = omega arith
 
-pub with_number : (d : List ℕ) (f : Field) {v w : ℕ} → v ≡ w → put_in d f v ≡ put_in d f w
-with_number d f q = ap (put_in d f) q
-
--- a put keeps the length
-put_length : (d : List ℕ) (at : ℕ) (x : List ℕ) → length (put_at d at x) ≡ length d
-unfolding put_at
-put_length d at x =
-    split (λ (l : List ℕ). length l ≡ length d) (leb (at + length x) (length d)) _ d
-    (λ e. let h : at + length x ≤ length d = leb-true _ _ e in simp (length-append, length-take, length-drop) (omega arith))
-    (λ e. refl)
-
-pub puts_length : (fs : List (Field × ℕ)) (d : List ℕ) → length (put_all d fs) ≡ length d
-puts_length [] d = refl
-puts_length (f ∷ fs) d = puts_length fs (put_in d f.0 f.1) ∙ put_length d (first_byte f.0) (bytes_in f.0 f.1)
+pub cast_32 : (z : ℤ) → cast_unsigned w32 z ≡ bits32 z
+cast_32 (pos v) = refl
+cast_32 (negsuc v) = omega arith
 
 -- ---- reading
 
@@ -166,10 +157,10 @@ module _ (b : List ℕ) where
   fields_read [] k t p r e g = refl
   fields_read (f ∷ fs) k t p r e g =
       let x : List ℕ = bytes_in f.0 f.1 in
-      let q = both (eqb (first_byte f.0) k) _ p in
-      let u = both (ltb f.1 (range_of f.0)) _ r in
+      let q = and_parts (eqb (first_byte f.0) k) _ p in
+      let u = and_parts (ltb f.1 (range_of f.0)) _ r in
       let here : drop k b ≡ x ++ (written fs ++ t) = e ∙ append_assoc x (written fs) t in
-      split (λ (v : ℕ). number_in b g ≡ v) (same_field g f.0) f.1 (number_at (number_in b) fs g)
+      cond_both (same_field g f.0) f.1 (number_at (number_in b) fs g) (λ (v : ℕ). number_in b g ≡ v)
       (λ o. ap (number_in b) (same g f.0 o) ∙ field_read f.0 f.1 (written fs ++ t) (ltb-true _ _ u.0) (ap (λ (j : ℕ). drop j b) (eqb-true (first_byte f.0) k q.0) ∙ here))
       (λ o. fields_read fs (k + width_of f.0) t q.1 u.1
       (sym (drop-drop (width_of f.0) k b) ∙ ap (drop (width_of f.0)) here ∙ drop_at x (written fs ++ t) (width_of f.0) (field_length f.0 f.1)) g)
@@ -221,7 +212,7 @@ module _ (b : List ℕ) where
     number_fits (pair i) = omega (arith, bytes i, bytes (i + 1))
     number_fits (word i) = omega (arith, bytes i, bytes (i + 1), bytes (i + 2), bytes (i + 3))
 
-    field_again : (f : Field) → bytes_in f (number_in b f) ≡ span f
+    pub field_again : (f : Field) → bytes_in f (number_in b f) ≡ span f
     field_again (byte i) = refl
     field_again (pair i) =
         let p = of16 (get_or b i 0) (get_or b (i + 1) 0) (bytes i) (bytes (i + 1)) in

@@ -5,18 +5,18 @@
 --                     leave the cold slave (Answers.resume_15)
 --     one_bit         a saved block of exactly its own bytes with one bit flipped gives 16
 use mathlib.Core.Path.{◌≡◌, refl, sym, ap, ◌∙◌, subst}
-use mathlib.Core.Bool.{Bool, true, false, ◌&&◌}
+use mathlib.Core.Bool.{Bool, true, false}
 use mathlib.Core.List.{List, [], ◌++◌}
 use Prim.Native.Nat.{ℕ, ◌+◌, ◌-◌, ◌<◌}
 use native.Mathlib.Omega.{arith}
-use lib.Dec.{eqb}
 use lib.ListN.{length, take, drop, length-append, length-set}
 use lib.Seq.{take_at, drop-append_seam, drop-append-add}
-use borrow.Author.Tests.{eq-eqb, eqb-true, le-leb}
+use Rattle.std.proofs.lemmas.Bool.{false_from_ne_true}
+use Rattle.std.proofs.lemmas.Bool.Decides.{nat_tests}
 use Rattle.wire.specs.Reply.{refused, given}
 use Rattle.wire.specs.BigEndian.{be16_at, bytes16, bytes32}
 use Rattle.wire.proofs.Numbers.{spelled16}
-use Rattle.wire.proofs.Tests.{both, join, passed, given_zero, kept_new}
+use Rattle.wire.proofs.Tests.{passed, given_zero, kept_new}
 use Rattle.wire.proofs.Bytes.{Bytes, no_bytes, and_bytes, bytes_16, bytes_32}
 use Rattle.check_value.specs.Register.{register}
 use Rattle.check_value.proofs.Sealing.{sealed_length}
@@ -31,7 +31,7 @@ use Rattle.slave.specs.Answer.{Result, left}
 use Rattle.saved.specs.Layout.{body_length, pair, body_of, slave_in}
 use Rattle.saved.specs.Block.{trailer_length, block_length, covered_of, block_of, save_refusal, save_of, trailer, trailer_site, distance, shaped, from_body, held, block_fits, same_board, resume_of}
 use Rattle.saved.proofs.Body.{Fits, number_fits, body_bytes, slave_back}
-use Rattle.saved.proofs.Shape.{shape_room, fails}
+use Rattle.saved.proofs.Shape.{shape_room}
 use Rattle.saved.proofs.Fitting.{fits_sound, fitting}
 use Rattle.saved.proofs.Answers.{covered_length, resume_16, resume_17, resume_held}
 
@@ -70,10 +70,7 @@ module _ (s : Slave) (f : Fits s) where
 
     own_shape : shaped whole ≡ true
     unfolding shaped
-    own_shape =
-        join
-        (le-leb body_length (distance whole) (omega (arith, own_distance)))
-        (le-leb (distance whole + trailer_length) (length whole) (omega (arith, own_distance, behind_length)))
+    own_shape = grind (arith, nat_tests, own_distance, behind_length)
 
     own_body : from_body whole ≡ block_of s
     unfolding from_body
@@ -119,21 +116,11 @@ exact d h e =
 
 one_board : (a b : Board) → same_board a b ≡ true → a ≡ b
 unfolding same_board
-one_board a b e =
-    let p = both (eqb a.site b.site && eqb a.profile b.profile && eqb a.n b.n) _ e in
-    let q = both (eqb a.site b.site && eqb a.profile b.profile) _ p.0 in
-    let r = both (eqb a.site b.site) _ q.0 in
-    λ i.
-    record {
-      profile = eqb-true a.profile b.profile r.1 i;
-      n = eqb-true a.n b.n q.1 i;
-      site = eqb-true a.site b.site r.0 i;
-      tad = eqb-true a.tad b.tad p.1 i;
-    }
+one_board a b e = grind (arith, nat_tests)
 
 own_board : (b : Board) → same_board b b ≡ true
 unfolding same_board
-own_board b = rw (eq-eqb b.site b.site refl, eq-eqb b.profile b.profile refl, eq-eqb b.n b.n refl, eq-eqb b.tad b.tad refl)
+own_board b = grind (arith, nat_tests)
 
 module _ (s : Slave) (f : Fits s) (out : List ℕ) (e : (save_of s out).reply ≡ given tt) where
   abbrev block : List ℕ
@@ -158,7 +145,7 @@ module _ (s : Slave) (f : Fits s) (out : List ℕ) (e : (save_of s out).reply �
         same_block b
         ∙ resume_17 (front ++ block_of s) b kept (own_fits s f front (saved_block s out e).0)
         (ap (λ (x : Slave). same_board x.board b) (own_slave s f front)
-        ∙ fails (same_board s.board b) (λ q. other (one_board s.board b q)))
+        ∙ false_from_ne_true (same_board s.board b) (λ q. other (one_board s.board b q)))
 
   block_bytes : Bytes (block_of s)
   unfolding block_of covered_of
@@ -173,7 +160,7 @@ module _ (s : Slave) (f : Fits s) (out : List ℕ) (e : (save_of s out).reply �
   one_bit i k hi hk b kept =
       ap (λ (l : List ℕ). resume_of (flipped l i k) b) (saved_block s out e).1
       ∙ resume_16 (flipped (block_of s) i k) b kept
-      (fails (block_fits (flipped (block_of s) i k))
+      (false_from_ne_true (block_fits (flipped (block_of s) i k))
       (λ q. misses_no_bit (block_of s) i k (omega (arith, block_length_lem s)) hk block_bytes
       (exact (flipped (block_of s) i k) (length-set (block_of s) i _ ∙ block_length_lem s) q ∙ sym (leaves_zero (covered_of s)))))
 

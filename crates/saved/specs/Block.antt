@@ -1,16 +1,17 @@
 -- The saved block (document 01, "Saved block"): a body, then a trailer of site, distance and check value. What save replies and writes (15, 18), and
 -- what resume leaves and replies (15, 16, 17).
+use Rattle.std.specs.Prelude as std
 use Rattle.std.specs.Prelude.{ℕ, ◌+◌, ◌-◌, Bool, ◌&&◌, List, ◌++◌, length, drop, eqb, leb}
-use Rattle.wire.specs.Reply.{must, reply, kept_by, Output, filled}
+use Rattle.wire.specs.Reply.{must, reply, kept_by, Output, filled, reply_of}
+use Rattle.wire.specs.declared.Refusal.{Refusal}
 use Rattle.wire.specs.BigEndian.{be16_at, bytes16}
 use Rattle.check_value.specs.Register.{register, sealed}
 use Rattle.state.specs.Profile.{settings_kept}
 use Rattle.state.specs.Sound.{sound}
 use Rattle.state.specs.declared.Board.{Board}
 use Rattle.state.specs.declared.Slave.{Slave}
-use Rattle.slave.specs.Answer.{Result, left, outcome_of}
+use Rattle.slave.specs.Answer.{Result, left}
 use Rattle.slave.specs.Calls.{start_of}
-use Rattle.slave.specs.declared.Outcome.{Outcome}
 use Rattle.saved.specs.Layout.{body_length, body_of, slave_in}
 
 abbrev pub trailer_length : ℕ
@@ -37,8 +38,8 @@ unfoldable pub save_of : Slave → List ℕ → Output
 save_of s out = filled (save_refusal s (length out)) out (block_of s ++ drop block_length out)
 
 -- what a save leaves
-abbrev pub saved_output : Outcome → List ℕ → Output
-saved_output r out = record { reply = outcome_of r; bytes = out }
+abbrev pub saved_output : std.Result (Unit {0}) Refusal → List ℕ → Output
+saved_output r out = record { reply = reply_of r; bytes = out }
 
 -- ---- resume
 
