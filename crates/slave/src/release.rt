@@ -133,8 +133,9 @@ impl Ready<'_> {
         }
     }
 
-    // Its release, in the unit of its profile.
+    // Its release, in the unit of its profile. A call of its own: marks are rare, and the registers are for the packets between them.
     #[tactic(auto, unfolding(crate::specs::Step::release_at))]
+    #[inline(never)]
     pub(crate) fn release(self) -> MarkPart
         requires { (self.slave.now.count.phase ≡ 2) × (self.slave.now.waiting.pending ≡ 1) }
         ensures { mark_of result ≡ release_at self.entry.slave.now self.entry.tick }
