@@ -5,7 +5,7 @@ use Prim.Native.Nat.{ℕ, ◌+◌, ◌-◌, ◌≤◌, ◌<◌, suc}
 use native.Mathlib.Omega.{arith}
 use native.Mathlib.Nat.{zero-add}
 use native.Mathlib.Numerals.{add-one}
-use lib.ListN.{length, take, drop, set, length-append}
+use lib.ListN.{length, take, drop, set, length-append, length-drop}
 use lib.Seq.{length-take-le, take_at, set_split, append_snoc}
 use borrow.Author.Tests.{le-leb, lt-leb}
 use Rattle.wire.specs.Put.{put_at}
@@ -50,6 +50,11 @@ one_byte d at b h =
 -- bytes put whole
 pub word_put : (d : List ℕ) (at : ℕ) (s d' : List ℕ) → d' ≡ put_at d at s → at + length s ≤ length d → Puts (length s) d at s d' (at + length s)
 word_put d at s d' e h = record { bytes = e ∙ put_fits d at s h; ends = refl; short = omega arith; within = omega arith }
+
+-- a piece that fits keeps the length
+pub puts_length : {room : ℕ} {d : List ℕ} {at : ℕ} {s d' : List ℕ} {e : ℕ} → Puts room d at s d' e → at + room ≤ length d → length d' ≡ length d
+puts_length {d = d} {at = at} {s = s} p h =
+    ap length p.bytes ∙ simp (length-append, length-drop) (omega (arith, p.short, length-take-le at d p.within))
 
 -- where there is room a piece is put, else nothing
 module _ {room : ℕ} {d : List ℕ} {at : ℕ} {s d' : List ℕ} {e : ℕ} where
