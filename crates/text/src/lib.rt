@@ -1,5 +1,5 @@
 // The lines of the log as text (document 01, the paragraph on the log program), put on a page one behind the other.
-// Not by `Display`: it promises what is written where it answers `Ok`, and nowhere that it does, so a line with room would not be known to be there.
+// Not by `Display`: nothing that `write!` promises says that it answers `Ok`, so a line with room would not be known to be put (tried).
 #![tactic(auto)]
 
 ghost use Rattle.std.specs.Prelude.{◌≡◌, [], ◌∷◌, ◌+◌, ◌-◌, ◌≤◌, length};
