@@ -4,7 +4,6 @@
 ghost use Rattle.std.specs.Prelude.{◌≤◌, length, IfOk};
 
 use lines::Log;
-use slave::Outcome;
 use std::io::{Print, Read};
 use std::{fmt, io};
 
@@ -87,21 +86,19 @@ fn run(rt: &HostRuntime) -> Result<(), Failure> {
     let mut opening = [0; lines::OPENING_ROOM];
     let begun = lines::begin(&head[..n], &mut opening);
     write(rt, &opening[..begun.filled])?;
-    match begun.started.outcome {
-        Outcome::Done => {
-            let mut log = Log {
-                slave: begun.started.slave,
-                number: 0,
-            };
-            follow(
-                rt,
-                &mut log,
-                &mut [0; INPUT_ROOM],
-                &mut [0; OUTPUT_ROOM],
-            )
-        }
-        Outcome::Refused(_) => Ok(()),
+    if begun.started.outcome.is_err() {
+        return Ok(());
     }
+    let mut log = Log {
+        slave: begun.started.slave,
+        number: 0,
+    };
+    follow(
+        rt,
+        &mut log,
+        &mut [0; INPUT_ROOM],
+        &mut [0; OUTPUT_ROOM],
+    )
 }
 
 // What failed and why is said on standard error.

@@ -2,15 +2,17 @@
 #![tactic(auto)]
 
 ghost use Rattle.std.specs.Prelude.{◌≡◌, ◌+◌, ◌*◌, ◌≤◌, length, take, drop};
-ghost use Rattle.slave.specs.Answer.{outcome_of, shifted_of};
+ghost use Rattle.wire.specs.Reply.{reply_of};
+ghost use Rattle.slave.specs.Answer.{shifted_of};
 ghost use Rattle.text.specs.Puts.{Fronts};
 ghost use Rattle.text.specs.Rooms.{line_room};
 ghost use Rattle.lines.specs.Log.{record_length, board_in, begun_by, opened_by, opening_of};
 ghost use Rattle.lines.specs.Pieces.{most_records, handled_in, Handled, TakesPiece, ending_of, piece_by, held_by};
 
-use slave::{Answer, Outcome, Shifted};
+use slave::Shifted;
 use state::{Board, Slave};
 use text::Page;
+use wire::Refusal;
 
 // The bytes of a capture's settings, and of a record with its tick: specs/Log.antt.
 pub const SETTINGS_LENGTH: usize = 9;
@@ -58,20 +60,20 @@ fn begun_by(head: &[u8]) -> Shifted
     if head.len() < SETTINGS_LENGTH {
         return Shifted {
             slave: state::cold_slave(),
-            outcome: Outcome::Refused(15),
+            outcome: Err(Refusal::StartSettings),
         };
     }
     slave::start(board_in(head))
 }
 
 // The site line where the slave was started, or the refusal alone.
-fn put_opening(b: Board, outcome: Outcome, out: &mut [u8; OPENING_ROOM]) -> usize
-    ensures { Fronts (opened_by b (outcome_of outcome)) out.old out.new result }
+fn put_opening(b: Board, outcome: Result<(), Refusal>, out: &mut [u8; OPENING_ROOM]) -> usize
+    ensures { Fronts (opened_by b (reply_of outcome)) out.old out.new result }
 {
     let mut page = Page { out, at: 0 };
     match outcome {
-        Outcome::Done => page.site(b.site, b.n),
-        Outcome::Refused(k) => page.refusal(k),
+        Ok(()) => page.site(b.site, b.n),
+        Err(r) => page.refusal(r),
     }
     page.at
 }
@@ -115,9 +117,8 @@ impl Log {
         let mut page = Page { out, at: 0 };
         for record in input[..used].chunks_exact(RECORD_LENGTH) {
             let tick = wire::number32_at(record, 0);
-            let r = by_value::packet(self.slave, &record[TICK_LENGTH..], tick);
-            page.line(self.number, r.answer);
-            self.slave = r.slave;
+            let answer = slave::packet(&mut self.slave, &record[TICK_LENGTH..], tick);
+            page.line(self.number, answer);
             self.number += 1;
         }
         (used, page.at)
@@ -146,7 +147,7 @@ impl Log {
             page.end(self.number);
             return page.at;
         }
-        page.line(self.number, Answer::Refused(1));
+        page.line(self.number, Err(Refusal::NotAPacket));
         page.end(self.number + 1);
         page.at
     }

@@ -3,13 +3,15 @@
 #![tactic(auto)]
 
 ghost use Rattle.std.specs.Prelude.{◌≡◌, [], ◌∷◌, ◌+◌, ◌-◌, ◌≤◌, length};
+ghost use Rattle.wire.specs.Reply.{refusal_number};
 ghost use Rattle.slave.specs.Answer.{option_of, notice_of, mark_of, report_of, answer_of};
 ghost use Rattle.text.specs.Decimal.{decimal, most_digits};
 ghost use Rattle.text.specs.Line.{label_text, notice_text, mark_text, report_text, numbered, refusal_text, line_of, site_line, end_line};
 ghost use Rattle.text.specs.Rooms.{column_room, mark_room, report_room, numbered_room, refusal_room, line_room, site_room, end_room};
 ghost use Rattle.text.specs.Puts.{Puts, Placed};
 
-use slave::{Answer, Counted, MarkPart, Maybe, NoticePart};
+use slave::{Counted, MarkPart, NoticePart};
+use wire::Refusal;
 
 // The fixed words before numbers: specs/Words.antt.
 const SITE_WORD: &[u8] = b"site ";
@@ -80,14 +82,14 @@ impl<'a> Page<'a> {
         self.word(digits.format(n).as_bytes());
     }
 
-    fn label(&mut self, label: Maybe)
+    fn label(&mut self, label: Option<u16>)
         requires { self.old.at + column_room ≤ length self.old.out.now }
         ensures same { self.new.out.ghost_name ≡ self.old.out.ghost_name }
         ensures puts { Puts column_room self.old.out.now self.old.at (label_text (option_of label)) self.new.out.now self.new.at }
     {
         match label {
-            Maybe::Nothing => self.byte(b'-'),
-            Maybe::Just(x) => self.decimal(x.into()),
+            None => self.byte(b'-'),
+            Some(x) => self.decimal(x.into()),
         }
     }
 
@@ -100,7 +102,7 @@ impl<'a> Page<'a> {
             NoticePart::Absent => self.byte(b'-'),
             NoticePart::Taken => self.word(b"taken"),
             NoticePart::Slip => self.word(b"slip"),
-            NoticePart::Ignored(k) => self.decimal(k.into()),
+            NoticePart::Ignored(r) => self.decimal(r.number().into()),
         }
     }
 
@@ -112,9 +114,9 @@ impl<'a> Page<'a> {
         match mark {
             MarkPart::Unmarked => self.byte(b'-'),
             MarkPart::Untimed => self.word(b"untimed"),
-            MarkPart::DvbLate | MarkPart::A110Late => self.word(b"late"),
-            MarkPart::Dvb(t) => self.decimal(t.emission.0.into()),
-            MarkPart::A110(t) => self.decimal(t.emission.0.into()),
+            MarkPart::Dvb(None) | MarkPart::A110(None) => self.word(b"late"),
+            MarkPart::Dvb(Some(t)) => self.decimal(t.emission.0.into()),
+            MarkPart::A110(Some(t)) => self.decimal(t.emission.0.into()),
         }
     }
 
@@ -143,6 +145,15 @@ impl<'a> Page<'a> {
         self.byte(b'\n');
     }
 
+    // A refusal at the end of a line.
+    fn refused(&mut self, r: Refusal)
+        requires { self.old.at + refusal_room ≤ length self.old.out.now }
+        ensures same { self.new.out.ghost_name ≡ self.old.out.ghost_name }
+        ensures puts { Puts refusal_room self.old.out.now self.old.at (refusal_text (refusal_number r)) self.new.out.now self.new.at }
+    {
+        self.numbered(REFUSED_WORD, r.number().into());
+    }
+
     // How many bytes there are from byte `at` on.
     fn room(&self) -> usize
         ensures { result ≡ length self.now.out.now - self.now.at }
@@ -151,18 +162,18 @@ impl<'a> Page<'a> {
     }
 
     // A refusal, with its number. Here and below nothing is put where there is too little room.
-    pub fn refusal(&mut self, k: u8)
+    pub fn refusal(&mut self, r: Refusal)
         ensures same { self.new.out.ghost_name ≡ self.old.out.ghost_name }
-        ensures placed { Placed refusal_room self.old.out.now self.old.at (refusal_text k) self.new.out.now self.new.at }
+        ensures placed { Placed refusal_room self.old.out.now self.old.at (refusal_text (refusal_number r)) self.new.out.now self.new.at }
     {
         if self.room() < REFUSAL_ROOM {
             return;
         }
-        self.numbered(REFUSED_WORD, k.into());
+        self.refused(r);
     }
 
     // The line of a record that was answered.
-    pub fn line(&mut self, number: u64, answer: Answer)
+    pub fn line(&mut self, number: u64, answer: Result<Counted, Refusal>)
         ensures same { self.new.out.ghost_name ≡ self.old.out.ghost_name }
         ensures placed { Placed line_room self.old.out.now self.old.at (line_of number (answer_of answer)) self.new.out.now self.new.at }
     {
@@ -172,8 +183,8 @@ impl<'a> Page<'a> {
         self.decimal(number);
         self.byte(b' ');
         match answer {
-            Answer::Refused(k) => self.numbered(REFUSED_WORD, k.into()),
-            Answer::Counted(c) => self.report(c),
+            Ok(c) => self.report(c),
+            Err(r) => self.refused(r),
         }
     }
 

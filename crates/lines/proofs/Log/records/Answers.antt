@@ -16,7 +16,7 @@ loop-record-preserved c =
       search rules,
       search rules,
       search rules,
-      going_on _ _ _ _ _ l.invariant.4 c.in-Some.record.now (search rules) (search rules) c.number32_at-tick.ensures c.packet-r.ensures (placed_puts c.line.ensures.placed (search rules) (search rules)),
+      going_on _ _ _ _ _ l.invariant.4 c.in-Some.record.now (search rules) (search rules) c.number32_at-tick.ensures c.packet-answer.ensures (placed_puts c.line.ensures.placed (search rules) (search rules)),
     )
 
 pub returns-clause-handled : goal.returns-clause-handled

@@ -4,14 +4,14 @@ use Rattle.text.specs.Line.{line_of}
 use Rattle.text.proofs.Putting.{puts_placed, then, wider}
 use Rattle.text.proofs.Page.line.Goals as goal
 
-pub returns-in-Refused-clause-placed : goal.returns-in-Refused-clause-placed
+pub returns-in-Err-clause-placed : goal.returns-in-Err-clause-placed
 unfolding line_of
-returns-in-Refused-clause-placed c =
+returns-in-Err-clause-placed c =
     puts_placed (search rules)
-    (rw (c.in-Refused.is, ← c.into.ensures) (wider (omega arith) (then (then c.decimal.ensures.puts c.byte.ensures.puts) c.numbered.ensures.puts)))
+    (rw c.in-Err.is (wider (omega arith) (then (then c.decimal.ensures.puts c.byte.ensures.puts) c.refused.ensures.puts)))
 
-pub returns-in-Counted-clause-placed : goal.returns-in-Counted-clause-placed
+pub returns-in-Ok-clause-placed : goal.returns-in-Ok-clause-placed
 unfolding line_of
-returns-in-Counted-clause-placed c =
+returns-in-Ok-clause-placed c =
     puts_placed (search rules)
-    (rw c.in-Counted.is (then (then c.decimal.ensures.puts c.byte.ensures.puts) c.report.ensures.puts))
+    (rw c.in-Ok.is (then (then c.decimal.ensures.puts c.byte.ensures.puts) c.report.ensures.puts))
