@@ -2,7 +2,7 @@
 use mathlib.Core.Path.{◌≡◌, sym, ap, ap₂, ◌∙◌}
 use mathlib.Core.List.{List, ◌++◌, append_assoc}
 use Prim.Native.Nat.{ℕ, zero, suc, ◌+◌, ◌-◌, ◌*◌, ◌/◌, ◌≤◌, ◌<◌, min}
-use native.Mathlib.Nat.{min-le_left, min-le_right, zero-add}
+use native.Mathlib.Nat.{min-le_left, zero-add}
 use native.Mathlib.Numerals.{add-one}
 use native.Mathlib.Omega.{arith}
 use lib.ListN.{length, drop}
@@ -71,22 +71,11 @@ lines_then (suc j) k number s i =
     ∙ sym (append_assoc l (lines_of j (suc number) t rest) (lines_of k (suc number + j) (slave_behind j t rest) (drop (record_length * j) rest)))
     ∙ ap₂ (λ (n : ℕ) (x : List ℕ). l ++ lines_of j (suc number) t rest ++ lines_of k n (slave_behind j t rest) x) g (next_at j i)
 
--- how many records are handled
-module _ (bytes room number : ℕ) where
-  rest : ℕ
-  rest = min (room / line_room) (most_records - number)
-
-  pub handled_bytes : record_length * handled_in bytes room number ≤ bytes
-  unfolding handled_in
-  handled_bytes = omega (arith, min-le_left (bytes / record_length) rest)
-
-  pub handled_room : line_room * handled_in bytes room number ≤ room
-  unfolding handled_in rest
-  handled_room = omega (arith, min-le_right (bytes / record_length) rest, min-le_left (room / line_room) (most_records - number))
-
-  pub handled_number : handled_in bytes room number ≤ most_records - number
-  unfolding handled_in rest
-  handled_number = omega (arith, min-le_right (bytes / record_length) rest, min-le_right (room / line_room) (most_records - number))
+-- no more records are handled than are whole
+pub handled_bytes : (bytes room number : ℕ) → record_length * handled_in bytes room number ≤ bytes
+unfolding handled_in
+handled_bytes bytes room number =
+    omega (arith, min-le_left (bytes / record_length) (min (room / line_room) (most_records - number)))
 
 -- the end
 pub ending_empty : (number : ℕ) (rest : List ℕ) → length rest ≡ 0 → end_line number ≡ ending_of number rest

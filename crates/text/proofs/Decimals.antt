@@ -64,12 +64,9 @@ appends : AppendsLastDigit decimal_in
 unfolding decimal_in
 appends = search rules
 
-pub decimal_same : (n : ℕ) → n < 18_446_744_073_709_551_616 → decimal_in (suc n) n ≡ std.decimal n
-decimal_same n h = decimal_from_appends decimal_in appends (suc n) n h (omega (arith, length-decimal-le_succ n h))
-
 pub decimal_is : (n : ℕ) → n < 18_446_744_073_709_551_616 → std.decimal n ≡ decimal n
 unfolding decimal
-decimal_is n h = sym (decimal_same n h)
+decimal_is n h = sym (decimal_from_appends decimal_in appends (suc n) n h (omega (arith, length-decimal-le_succ n h)))
 
 -- of 64 bits
 pub at_most_digits : (n : ℕ) → n < 18_446_744_073_709_551_616 → length (decimal n) ≤ most_digits
