@@ -1,11 +1,11 @@
 // The log of a capture: reads standard input, and writes a line for each record to standard output.
 #![tactic(auto)]
 
-ghost use Rattle.std.specs.Prelude.{◌≡◌, ◌≤◌, length};
+ghost use Rattle.std.specs.Prelude.{◌≤◌, length, IfOk};
 
-use slave::Outcome;
-use state::Slave;
+use lines::Log;
 use std::io::{Print, Read};
+use std::{fmt, io};
 
 // The buffers' records, and room for them and for their lines.
 const RECORDS: usize = 1024;
@@ -14,103 +14,55 @@ const INPUT_ROOM: usize = RECORDS * lines::RECORD_LENGTH;
 
 const OUTPUT_ROOM: usize = RECORDS * text::LINE_ROOM;
 
-// Where the log stands: the slave, the next record's number, and how many bytes at the front of the input are still to be used.
-#[derive(Clone, Copy)]
-struct Place {
-    slave: Slave,
-    number: u64,
-    held: usize,
-    more: bool,
-    failed: bool,
+// What ends a log before its capture has ended.
+#[derive(Drop)]
+enum Failure {
+    Read(io::Error),
+    Write(io::Error),
 }
 
-// Says on standard error what failed and why.
-fn fail(rt: &HostRuntime, what: &str, why: &std::io::Error) {
-    let _ = eprintln!(rt; "{what}: {why}");
-}
-
-// Writes bytes to standard output, or says why it cannot.
-fn write(rt: &HostRuntime, bytes: &[u8]) -> bool {
-    match rt.write_all(bytes) {
-        Ok(()) => true,
-        Err(e) => {
-            fail(rt, "write", &e);
-            false
+impl fmt::Display for Failure {
+    fn fmt<W: fmt::Write>(&self, f: &mut fmt::Formatter<W>) -> fmt::Result {
+        match self {
+            Failure::Read(why) => write!(f, "read: {why}"),
+            Failure::Write(why) => write!(f, "write: {why}"),
         }
     }
 }
 
-// The log stops here.
-fn stop(at: Place, failed: bool) -> Place
-    ensures { result.held ≡ at.held }
+// Some bytes of standard input, none where it has ended.
+fn read(rt: &HostRuntime, buf: &mut [u8]) -> Result<usize, Failure>
+    ensures { IfOk result (λ n. n ≤ length buf.new) }
 {
-    let s = at.slave;
-    Place {
-        slave: s,
-        number: at.number,
-        held: at.held,
-        more: false,
-        failed: failed,
-    }
+    rt.stdin().read(buf).map_err(Failure::Read)
 }
 
-// One read, and the lines of what came.
-fn turn(rt: &HostRuntime, at: Place, input: &mut [u8], output: &mut [u8]) -> Place
-    requires { at.held ≤ length input.old }
-    ensures { result.held ≤ length input.new }
-{
-    let held = at.held;
-    let got = match rt.stdin().read(&mut input[held..]) {
-        Ok(n) => n,
-        Err(e) => {
-            fail(rt, "read", &e);
-            return stop(at, true);
-        }
-    };
-    if got == 0 {
-        return stop(at, false);
-    }
-    let n = held + got;
-    let s = at.slave;
-    let p = lines::take_piece(s, at.number, n, input, output);
-    let after = p.slave;
-    let filled = p.filled;
-    let done = write(rt, &output[..filled]);
-    Place {
-        slave: after,
-        number: p.number,
-        held: p.held,
-        more: done,
-        failed: !done,
-    }
+// Writes bytes to standard output.
+fn write(rt: &HostRuntime, bytes: &[u8]) -> Result<(), Failure> {
+    rt.write_all(bytes).map_err(Failure::Write)
 }
 
-// The end: what is left is a record cut short.
-fn close(rt: &HostRuntime, number: u64, rest: &[u8]) {
-    let mut last = [0u8; lines::ENDING_ROOM];
-    let end = lines::ending(number, rest, &mut last);
-    write(rt, &last[..end]);
-}
-
-// Reads the records and writes their lines, then the end line. A proved loop has to end, so its turns are counted, up to a number that no run uses up.
-fn follow(rt: &HostRuntime, s: Slave, input: &mut [u8], output: &mut [u8]) {
-    let mut at = Place {
-        slave: s,
-        number: 0,
-        held: 0,
-        more: true,
-        failed: false,
-    };
+// Reads the records and writes their lines, then the end line, which counts what is left as a record cut short. A proved loop has to end, so its turns are
+// counted, up to a number that no run uses up.
+fn follow(
+    rt: &HostRuntime,
+    log: &mut Log,
+    input: &mut [u8],
+    output: &mut [u8],
+) -> Result<(), Failure> {
+    let mut held = 0;
     for _ in 0..u64::MAX {
-        if !at.more {
+        let came = read(rt, &mut input[held..])?;
+        if came == 0 {
             break;
         }
-        at = turn(rt, at, input, output);
+        let taken = log.take_piece(held + came, input, output);
+        write(rt, &output[..taken.filled])?;
+        held = taken.held;
     }
-    let held = at.held;
-    if !at.failed {
-        close(rt, at.number, &input[..held]);
-    }
+    let mut last = [0; lines::ENDING_ROOM];
+    let end = log.ending(&input[..held], &mut last);
+    write(rt, &last[..end])
 }
 
 // Reads until the buffer is full, the input ends or a read fails, and answers how many bytes came.
@@ -118,52 +70,40 @@ fn read_full(rt: &HostRuntime, buf: &mut [u8]) -> usize
     ensures { result ≤ length buf.new }
 {
     let mut done = 0;
-    while done < buf.len() {
-        let got = match rt.stdin().read(&mut buf[done..]) {
-            Ok(n) => n,
-            Err(_) => 0,
-        };
-        if got == 0 {
-            break;
-        }
-        done += got;
+    while let Ok(came @ 1..) = read(rt, &mut buf[done..]) {
+        done += came;
     }
     done
 }
 
-// Whether the settings came, as far as the input goes: of short ones one more read tells whether it ended, and standard error why it cannot be read.
-fn settings_came(rt: &HostRuntime, n: usize) -> bool {
-    if n == lines::SETTINGS_LENGTH {
-        return true;
+// The whole log. Of short settings one more read tells whether the input ended or cannot be read.
+fn run(rt: &HostRuntime) -> Result<(), Failure> {
+    let mut head = [0; lines::SETTINGS_LENGTH];
+    let n = read_full(rt, &mut head);
+    if n < lines::SETTINGS_LENGTH {
+        read(rt, &mut [0])?;
     }
-    let mut next = [0u8; 1];
-    match rt.stdin().read(&mut next) {
-        Ok(_) => true,
-        Err(e) => {
-            fail(rt, "read", &e);
-            false
-        }
+    let mut opening = [0; lines::OPENING_ROOM];
+    let begun = lines::begin(&head[..n], &mut opening);
+    write(rt, &opening[..begun.filled])?;
+    if begun.started.outcome.is_err() {
+        return Ok(());
     }
+    let mut log = Log {
+        slave: begun.started.slave,
+        number: 0,
+    };
+    follow(
+        rt,
+        &mut log,
+        &mut [0; INPUT_ROOM],
+        &mut [0; OUTPUT_ROOM],
+    )
 }
 
+// What failed and why is said on standard error.
 fn main(rt: HostRuntime) {
-    let mut head = [0u8; lines::SETTINGS_LENGTH];
-    let n = read_full(&rt, &mut head);
-    if !settings_came(&rt, n) {
-        return;
-    }
-    let mut opening = [0u8; lines::OPENING_ROOM];
-    let b = lines::begin(&head[..n], &mut opening);
-    let filled = b.filled;
-    let started = b.started;
-    let outcome = started.outcome;
-    let s = started.slave;
-    if write(&rt, &opening[..filled]) {
-        let mut input = [0u8; INPUT_ROOM];
-        let mut output = [0u8; OUTPUT_ROOM];
-        match outcome {
-            Outcome::Done => follow(&rt, s, &mut input, &mut output),
-            Outcome::Refused(_) => {}
-        }
+    if let Err(failure) = run(&rt) {
+        let _ = eprintln!(rt; "{failure}");
     }
 }

@@ -1,26 +1,23 @@
 -- Laws of records: where a record's bytes lie in an input, and some records and then more.
-use mathlib.Core.Path.{◌≡◌, sym, ap, ap₂, ◌∙◌, subst}
-use mathlib.Core.List.{List, ◌++◌, append_assoc, append-nil}
+use mathlib.Core.Path.{◌≡◌, sym, ap, ap₂, ◌∙◌}
+use mathlib.Core.List.{List, ◌++◌, append_assoc}
 use Prim.Native.Nat.{ℕ, zero, suc, ◌+◌, ◌-◌, ◌*◌, ◌/◌, ◌≤◌, ◌<◌, min}
-use native.Mathlib.Nat.{min-le_left, min-le_right, zero-add}
+use native.Mathlib.Nat.{min-le_left, zero-add}
 use native.Mathlib.Numerals.{add-one}
 use native.Mathlib.Omega.{arith}
-use lib.ListN.{length, take, drop, length-drop}
-use lib.Seq.{length-take-le, take_all, drop-drop}
+use lib.ListN.{length, drop}
+use lib.Seq.{drop-drop}
 use borrow.Author.Tests.{eq-eqb, ne_eqb, le-leb, lt-leb}
 use Rattle.wire.specs.Reply.{refused}
 use Rattle.wire.specs.BigEndian.{be32_at}
 use Rattle.state.specs.Slave.{cold}
 use Rattle.state.specs.declared.Slave.{Slave}
-use Rattle.slave.specs.Answer.{Report, Result, left}
+use Rattle.slave.specs.Answer.{left}
 use Rattle.slave.specs.Calls.{start_of, packet_of}
 use Rattle.text.specs.Rooms.{line_room}
 use Rattle.text.specs.Line.{line_of, end_line}
-use Rattle.text.specs.Puts.{Puts}
-use Rattle.text.proofs.Putting.{retext, refront, front_then}
 use Rattle.lines.specs.Log.{settings_length, board_in, begun_by, tick_length, record_length, record_of, first_of, slave_behind, lines_of}
-use Rattle.lines.specs.Pieces.{most_records, handled_in, Handled, ending_of}
-use Rattle.lines.specs.declared.Piece.{Piece}
+use Rattle.lines.specs.Pieces.{most_records, handled_in, ending_of}
 
 -- the settings at the front
 pub begun_short : (h : List ℕ) → length h < settings_length → left cold (refused 15) ≡ begun_by h
@@ -74,46 +71,11 @@ lines_then (suc j) k number s i =
     ∙ sym (append_assoc l (lines_of j (suc number) t rest) (lines_of k (suc number + j) (slave_behind j t rest) (drop (record_length * j) rest)))
     ∙ ap₂ (λ (n : ℕ) (x : List ℕ). l ++ lines_of j (suc number) t rest ++ lines_of k n (slave_behind j t rest) x) g (next_at j i)
 
--- and one record more
-pub line_more : (k number : ℕ) (s : Slave) (i : List ℕ)
-    → lines_of k number s i ++ line_of (number + k) (record_of (slave_behind k s i) (first_of (drop (record_length * k) i))).reply ≡ lines_of (k + 1) number s i
-unfolding lines_of
-line_more k number s i =
-    sym (lines_then k 1 number s i ∙ ap (λ (x : List ℕ). lines_of k number s i ++ x) (append-nil (line_of (number + k) (record_of (slave_behind k s i) (first_of (drop (record_length * k) i))).reply)))
-
-pub slave_more : (k : ℕ) (s : Slave) (i : List ℕ) → (record_of (slave_behind k s i) (first_of (drop (record_length * k) i))).slave ≡ slave_behind (k + 1) s i
-unfolding slave_behind
-slave_more k s i = sym (slave_then k 1 s i)
-
--- how many records are handled
-module _ (bytes room number : ℕ) where
-  rest : ℕ
-  rest = min (room / line_room) (most_records - number)
-
-  pub handled_bytes : record_length * handled_in bytes room number ≤ bytes
-  unfolding handled_in
-  handled_bytes = omega (arith, min-le_left (bytes / record_length) rest)
-
-  pub handled_room : line_room * handled_in bytes room number ≤ room
-  unfolding handled_in rest
-  handled_room = omega (arith, min-le_right (bytes / record_length) rest, min-le_left (room / line_room) (most_records - number))
-
-  pub handled_number : handled_in bytes room number ≤ most_records - number
-  unfolding handled_in rest
-  handled_number = omega (arith, min-le_right (bytes / record_length) rest, min-le_right (room / line_room) (most_records - number))
-
--- a whole record, as the code takes it out of an input
-abbrev record_from : ℕ → List ℕ → List ℕ
-record_from at i = take (at + record_length - at) (drop at i)
-
-record_there : (i : List ℕ) (at tick : ℕ) (s : Slave) → at + record_length ≤ length i → tick ≡ be32_at (record_from at i) 0
-    → packet_of s (take (length (record_from at i) - tick_length) (drop tick_length (record_from at i))) tick ≡ record_of s (first_of (drop at i))
-record_there i at tick s h e =
-    let r : List ℕ = record_from at i in
-    let n : at + record_length - at ≡ record_length = omega arith in
-    let whole : length r ≡ record_length = length-take-le (at + record_length - at) (drop at i) (omega (arith, length-drop at i)) ∙ n in
-    let part : take (length r - tick_length) (drop tick_length r) ≡ drop tick_length r = take_all (length r - tick_length) (drop tick_length r) (omega (arith, length-drop tick_length r)) in
-    (λ j. packet_of s (part j) (e j)) ∙ sym (record_whole s r whole) ∙ ap (λ (k : ℕ). record_of s (take k (drop at i))) n
+-- no more records are handled than are whole
+pub handled_bytes : (bytes room number : ℕ) → record_length * handled_in bytes room number ≤ bytes
+unfolding handled_in
+handled_bytes bytes room number =
+    omega (arith, min-le_left (bytes / record_length) (min (room / line_room) (most_records - number)))
 
 -- the end
 pub ending_empty : (number : ℕ) (rest : List ℕ) → length rest ≡ 0 → end_line number ≡ ending_of number rest
@@ -128,24 +90,3 @@ pub ending_cut : (number : ℕ) (rest : List ℕ) → (length rest ≡ 0 → ⊥
     → line_of number (refused 1) ++ end_line (number + 1) ≡ ending_of number rest
 unfolding ending_of
 ending_cut number rest h e = rw (ne_eqb (length rest) 0 h, ne_eqb number most_records e, add-one number)
-
--- one record more is handled: its packet as the code takes it out of the input, and its line put behind the others
-pub handled_more : {s : Slave} {number : ℕ} {i : List ℕ} {k : ℕ} {out d d' : List ℕ} {p : Piece} {tick end : ℕ} {q : Result Report} → Handled s number i k out d p
-    → p.used + record_length ≤ length i
-    → tick ≡ be32_at (record_from p.used i) 0
-    → q ≡ packet_of p.slave (take (length (record_from p.used i) - tick_length) (drop tick_length (record_from p.used i))) tick
-    → Puts line_room d p.filled (line_of p.number q.reply) d' end
-    → Handled s number i (k + 1) out d' (record { slave = q.slave; number = p.number + 1; used = p.used + record_length; filled = end })
-handled_more {s} {number} {i} {k} {p = p} {tick = tick} {q = q} h room ticks packet put =
-    let same : q ≡ record_of (slave_behind k s i) (first_of (drop (record_length * k) i)) =
-    packet ∙ record_there i p.used tick p.slave room ticks ∙ (λ j. record_of (h.slave j) (first_of (drop (h.used j) i))) in
-    record {
-      slave = (λ j. (same j).slave) ∙ slave_more k s i;
-      next = omega (arith, h.next);
-      used = omega (arith, h.used);
-      lines = refront (line_more k number s i) (front_then h.lines (retext (λ j. line_of (h.next j) (same j).reply) put));
-    }
-
--- the same, said of another count
-pub handled_same : {s : Slave} {number : ℕ} {i : List ℕ} {j k : ℕ} {out out' : List ℕ} {r : Piece} → j ≡ k → Handled s number i j out out' r → Handled s number i k out out' r
-handled_same {s} {number} {i} {out = out} {out' = out'} {r = r} e p = subst (λ (n : ℕ). Handled s number i n out out' r) e p

@@ -3,8 +3,7 @@ use Rattle.std.specs.Prelude.{◌≡◌, ℕ, ◌+◌, ◌*◌, ◌/◌, ◌≤�
 use Rattle.state.specs.declared.Slave.{Slave}
 use Rattle.text.specs.Rooms.{line_room}
 use Rattle.lines.specs.Log.{settings_length, begun_by, opening_of, record_length, slave_behind, lines_of, records_in, if_started}
-use Rattle.lines.specs.Pieces.{most_records, TakesPiece, ending_of}
-use Rattle.lines.specs.declared.Held.{Held}
+use Rattle.lines.specs.Pieces.{most_records, Held, TakesPiece, ending_of}
 
 -- a call: the bytes that came since the last one, how many bytes of the input it takes, the buffers before and after it, and its answer
 pub record Call : Type 0 where

@@ -6,8 +6,8 @@ use Rattle.text.specs.Line.{line_of, end_line}
 use Rattle.text.specs.Rooms.{line_room}
 use Rattle.text.specs.Puts.{Fronts}
 use Rattle.lines.specs.Log.{record_length, slave_behind, lines_of}
-use Rattle.lines.specs.declared.Piece.{Piece}
-use Rattle.lines.specs.declared.Held.{Held}
+use Rattle.lines.specs.declared.Log.{Log}
+use Rattle.lines.specs.declared.Taken.{Taken}
 
 -- a log's records are counted in 64 bits; it ends after so many
 abbrev pub most_records : ℕ
@@ -16,6 +16,26 @@ most_records = 18_446_744_073_709_551_615
 -- as many records as are whole in so many bytes, as have room for their lines, and as can be counted
 unfoldable pub handled_in : ℕ → ℕ → ℕ → ℕ
 handled_in bytes room number = min (bytes / record_length) (min (room / line_room) (most_records - number))
+
+-- what some records of an input leave: the slave, the next record's number, how many bytes were used and how many written
+pub record Piece : Type 0 where
+  pub slave : Slave
+  pub number : ℕ
+  pub used : ℕ
+  pub filled : ℕ
+
+abbrev pub piece_by : Log → ℕ → ℕ → Piece
+piece_by l used filled = record { slave = l.slave; number = l.number; used = used; filled = filled }
+
+-- and what a piece that is read into a buffer leaves: held bytes of it stand at the buffer's front
+pub record Held : Type 0 where
+  pub slave : Slave
+  pub number : ℕ
+  pub filled : ℕ
+  pub held : ℕ
+
+abbrev pub held_by : Log → Taken → Held
+held_by l t = record { slave = l.slave; number = l.number; filled = t.filled; held = t.held }
 
 -- what a call leaves that handles the first k records of an input: the slave, the next record's number and the lines
 pub record Handled (s : Slave) (number : ℕ) (i : List ℕ) (k : ℕ) (out out' : List ℕ) (p : Piece) : Type 0 where

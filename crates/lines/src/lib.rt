@@ -1,14 +1,18 @@
 // The log's lines: from the bytes of a capture to the bytes that the log program prints (document 01, the paragraph on the log program).
 #![tactic(auto)]
 
-ghost use Rattle.std.specs.Prelude.{◌≡◌, ◌≤◌, min, length, take, drop};
-ghost use Rattle.slave.specs.Answer.{outcome_of, shifted_of};
+ghost use Rattle.std.specs.Prelude.{◌≡◌, ◌+◌, ◌*◌, ◌≤◌, length, take, drop};
+ghost use Rattle.wire.specs.Reply.{reply_of};
+ghost use Rattle.slave.specs.Answer.{shifted_of};
 ghost use Rattle.text.specs.Puts.{Fronts};
-ghost use Rattle.lines.specs.Log.{board_in, begun_by, opened_by, opening_of};
-ghost use Rattle.lines.specs.Pieces.{handled_in, Handled, TakesPiece, ending_of};
+ghost use Rattle.text.specs.Rooms.{line_room};
+ghost use Rattle.lines.specs.Log.{record_length, board_in, begun_by, opened_by, opening_of};
+ghost use Rattle.lines.specs.Pieces.{most_records, handled_in, Handled, TakesPiece, ending_of, piece_by, held_by};
 
-use slave::{Answer, Outcome, Shifted};
+use slave::Shifted;
 use state::{Board, Slave};
+use text::Page;
+use wire::Refusal;
 
 // The bytes of a capture's settings, and of a record with its tick: specs/Log.antt.
 pub const SETTINGS_LENGTH: usize = 9;
@@ -29,20 +33,9 @@ pub struct Begun {
     pub filled: usize,
 }
 
-// What a piece of a capture leaves: the slave, the next record's number, how many bytes were used and how many written.
+// What a piece of a capture leaves in its buffers: how many bytes of lines were written, and how many bytes are held at the input's front.
 #[derive(Clone, Copy)]
-pub struct Piece {
-    pub slave: Slave,
-    pub number: u64,
-    pub used: usize,
-    pub filled: usize,
-}
-
-// What a piece leaves that is read into a buffer: held bytes of it stand at the buffer's front.
-#[derive(Clone, Copy)]
-pub struct Held {
-    pub slave: Slave,
-    pub number: u64,
+pub struct Taken {
     pub filled: usize,
     pub held: usize,
 }
@@ -67,20 +60,22 @@ fn begun_by(head: &[u8]) -> Shifted
     if head.len() < SETTINGS_LENGTH {
         return Shifted {
             slave: state::cold_slave(),
-            outcome: Outcome::Refused(15),
+            outcome: Err(Refusal::StartSettings),
         };
     }
     slave::start(board_in(head))
 }
 
 // The site line where the slave was started, or the refusal alone.
-fn put_opening(b: Board, outcome: Outcome, out: &mut [u8; OPENING_ROOM]) -> usize
-    ensures { Fronts (opened_by b (outcome_of outcome)) out.old out.new result }
+fn put_opening(b: Board, outcome: Result<(), Refusal>, out: &mut [u8; OPENING_ROOM]) -> usize
+    ensures { Fronts (opened_by b (reply_of outcome)) out.old out.new result }
 {
+    let mut page = Page { out, at: 0 };
     match outcome {
-        Outcome::Done => text::put_site(out, 0, b.site, b.n),
-        Outcome::Refused(k) => text::put_refusal(out, 0, k),
+        Ok(()) => page.site(b.site, b.n),
+        Err(r) => page.refusal(r),
     }
+    page.at
 }
 
 // Starts a slave by the settings, and writes the site line, or the refusal alone.
@@ -88,108 +83,72 @@ pub fn begin(head: &[u8], out: &mut [u8; OPENING_ROOM]) -> Begun
     ensures { (shifted_of result.started ≡ begun_by head.now) × Fronts (opening_of head.now) out.old out.new result.filled }
 {
     let started = begun_by(head);
-    let outcome = started.outcome;
-    let board = board_in(head);
-    let filled = put_opening(board, outcome, out);
-    Begun {
-        started: started,
-        filled: filled,
-    }
+    let filled = put_opening(board_in(head), started.outcome, out);
+    Begun { started, filled }
 }
 
-// The smaller of two.
-fn least(a: usize, b: usize) -> usize
-    ensures { result ≡ min a b }
-{
-    if a < b {
-        return a;
-    }
-    b
+// Where a log stands between two pieces of its capture: the slave, and the next record's number.
+#[derive(Clone, Copy)]
+pub struct Log {
+    pub slave: Slave,
+    pub number: u64,
 }
 
-// How many records are whole in so many bytes, have room for their lines, and can be counted.
-fn handled(bytes: usize, room: usize, number: u64) -> usize
-    ensures { result ≡ handled_in bytes room number }
-{
-    least(
-        bytes / RECORD_LENGTH,
-        least(room / text::LINE_ROOM, (u64::MAX - number) as usize),
-    )
-}
+impl Log {
+    // How many records are whole in so many bytes, have room for their lines, and can be counted.
+    #[tactic(auto, unfolding(crate::specs::Pieces::handled_in))]
+    fn handled(&self, bytes: usize, room: usize) -> usize
+        ensures count { result ≡ handled_in bytes room self.now.number }
+        ensures whole { record_length * result ≤ bytes }
+        ensures room { line_room * result ≤ room }
+        ensures counted { self.now.number + result ≤ most_records }
+    {
+        let counted = (u64::MAX - self.number) as usize;
+        (bytes / RECORD_LENGTH).min((room / text::LINE_ROOM).min(counted))
+    }
 
-// The lines of as many records as are whole and have room.
-fn records(s: Slave, number: u64, input: &[u8], out: &mut [u8]) -> Piece
-    ensures { Handled s number input.now (handled_in (length input.now) (length out.old) number) out.old out.new result }
-{
-    let whole = handled(input.len(), out.len(), number);
-    let mut after = s;
-    let mut next = number;
-    let mut used = 0;
-    let mut end = 0;
-    let mut done = 0;
-    while done < whole {
-        let to = used + RECORD_LENGTH;
-        let bytes = &input[used..to];
-        let tick = wire::number32_at(bytes, 0);
-        let r = by_value::packet(after, &bytes[TICK_LENGTH..], tick);
-        let answer = r.answer;
-        end = text::put_line(out, end, next, answer);
-        after = r.slave;
-        next += 1;
-        used = to;
-        done += 1;
+    // The lines of as many records as are whole and have room. Answers how many bytes they are, and how many were written.
+    fn records(&mut self, input: &[u8], out: &mut [u8]) -> (usize, usize)
+        ensures handled { Handled self.old.slave self.old.number input.now (handled_in (length input.now) (length out.old) self.old.number) out.old out.new
+            (piece_by self.new result.0 result.1) }
+        ensures within { result.0 ≤ length input.now }
+    {
+        let used = self.handled(input.len(), out.len()) * RECORD_LENGTH;
+        let mut page = Page { out, at: 0 };
+        for record in input[..used].chunks_exact(RECORD_LENGTH) {
+            let tick = wire::number32_at(record, 0);
+            let answer = slave::packet(&mut self.slave, &record[TICK_LENGTH..], tick);
+            page.line(self.number, answer);
+            self.number += 1;
+        }
+        (used, page.at)
     }
-    Piece {
-        slave: after,
-        number: next,
-        used: used,
-        filled: end,
-    }
-}
 
-// Moves the bytes from `from` to `to` to the front, and answers how many they are.
-fn carry(buf: &mut [u8], from: usize, to: usize) -> usize
-    requires { (from ≤ to) × (to ≤ length buf.old) }
-    ensures { Fronts (drop from (take to buf.old)) buf.old buf.new result }
-{
-    let mut i = from;
-    let mut k = 0;
-    while i < to {
-        buf[k] = buf[i];
-        i += 1;
-        k += 1;
+    // A piece of a capture stands in the first n bytes of the input: writes the lines of its whole records, and moves what is left of it to the
+    // front. An n beyond the input is the whole input.
+    pub fn take_piece(&mut self, n: usize, input: &mut [u8], out: &mut [u8]) -> Taken
+        ensures { TakesPiece self.old.slave self.old.number n input.old input.new out.old out.new (held_by self.new result) }
+    {
+        let end = n.min(input.len());
+        let (used, filled) = self.records(&input[..end], out);
+        input.copy_within(used..end, 0);
+        Taken {
+            filled,
+            held: end - used,
+        }
     }
-    k
-}
 
-// A piece of a capture stands in the first n bytes of the input: writes the lines of its whole records, and moves what is left of it to the
-// front. An n beyond the input is the whole input.
-pub fn take_piece(s: Slave, number: u64, n: usize, input: &mut [u8], out: &mut [u8]) -> Held
-    ensures { TakesPiece s number n input.old input.new out.old out.new result }
-{
-    let end = least(n, input.len());
-    let p = records(s, number, &input[..end], out);
-    let after = p.slave;
-    let used = p.used;
-    let held = carry(input, used, end);
-    Held {
-        slave: after,
-        number: p.number,
-        filled: p.filled,
-        held: held,
+    // The end of a capture: bytes that are left are a record cut short, and the end line counts it.
+    pub fn ending(&self, rest: &[u8], out: &mut [u8; ENDING_ROOM]) -> usize
+        ensures { Fronts (ending_of self.now.number rest.now) out.old out.new result }
+    {
+        let mut page = Page { out, at: 0 };
+        if rest.is_empty() || self.number == u64::MAX {
+            page.end(self.number);
+            return page.at;
+        }
+        page.line(self.number, Err(Refusal::NotAPacket));
+        page.end(self.number + 1);
+        page.at
     }
-}
-
-// The end of a capture: bytes that are left are a record cut short, and the end line counts it.
-pub fn ending(number: u64, rest: &[u8], out: &mut [u8; ENDING_ROOM]) -> usize
-    ensures { Fronts (ending_of number rest.now) out.old out.new result }
-{
-    if rest.len() == 0 {
-        return text::put_end(out, 0, number);
-    }
-    if number == u64::MAX {
-        return text::put_end(out, 0, number);
-    }
-    let line = text::put_line(out, 0, number, Answer::Refused(1));
-    text::put_end(out, line, number + 1)
 }

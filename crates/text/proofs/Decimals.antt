@@ -7,6 +7,9 @@ use native.Mathlib.Omega.{arith}
 use lib.Dec.{ltb}
 use lib.ListN.{length, get_or, length-append, get_or-append}
 use borrow.Author.Tests.{lt-ltb, le-ltb, ltb-true, ltb-false}
+use Rattle.std.proofs.Common.{rules, sym}
+use Rattle.std.specs.Fmt as std
+use Rattle.std.proofs.lemmas.Fmt.{AppendsLastDigit, decimal_from_appends, length-decimal-le, length-decimal-le_succ}
 use Rattle.text.specs.Decimal.{digit, decimal_in, decimal, most_digits}
 
 -- the digits do not depend on how many are allowed, once there are enough
@@ -56,24 +59,18 @@ pub not_empty : (n : ℕ) → 1 ≤ length (decimal n)
 not_empty =
     by_digits (λ (n : ℕ). 1 ≤ length (decimal n)) (λ n h. omega (arith, length_one n h)) (λ n h e. omega (arith, length_more n h))
 
--- the first number of more than k + 1 digits
-unfoldable pub tens : ℕ → ℕ
-tens zero = 10
-tens (suc k) = tens k * 10
+-- the library's decimal text of a number of 64 bits is the same
+appends : AppendsLastDigit decimal_in
+unfolding decimal_in
+appends = search rules
 
-at_most_step : (k n : ℕ) → length (decimal (n / 10)) ≤ suc k → (b : Bool) → ltb n 10 ≡ b → length (decimal n) ≤ suc (suc k)
-at_most_step k n h true e = omega (arith, length_one n (ltb-true n 10 e))
-at_most_step k n h false e = omega (arith, length_more n (ltb-false n 10 e))
-
-pub at_most : (k n : ℕ) → n < tens k → length (decimal n) ≤ suc k
-unfolding tens
-at_most zero n h = omega (arith, length_one n h)
-at_most (suc k) n h = at_most_step k n (at_most k (n / 10) (omega arith)) (ltb n 10) refl
+pub decimal_is : (n : ℕ) → n < 18_446_744_073_709_551_616 → std.decimal n ≡ decimal n
+unfolding decimal
+decimal_is n h = sym (decimal_from_appends decimal_in appends (suc n) n h (omega (arith, length-decimal-le_succ n h)))
 
 -- of 64 bits
 pub at_most_digits : (n : ℕ) → n < 18_446_744_073_709_551_616 → length (decimal n) ≤ most_digits
-unfolding tens
-at_most_digits n h = at_most 19 n (omega arith)
+at_most_digits n h = rw (← decimal_is n h) (length-decimal-le 20 n (omega arith) (omega arith) h)
 
 -- the number that digits spell
 unfoldable pub spelled_from : ℕ → List ℕ → ℕ

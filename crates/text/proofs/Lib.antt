@@ -1,4 +1,3 @@
 -- The laws of crate `text`, in the order in which they build on each other.
 pub mod Decimals
 pub mod Putting
-pub mod Filling

@@ -1,15 +1,13 @@
 -- Pieces put one behind the other are one piece.
 use mathlib.Core.Path.{◌≡◌, refl, sym, ap, ap₂, ◌∙◌, subst}
-use mathlib.Core.List.{List, [], ◌∷◌, ◌++◌, append_assoc}
-use Prim.Native.Nat.{ℕ, ◌+◌, ◌-◌, ◌≤◌, ◌<◌, suc}
+use mathlib.Core.List.{List, [], ◌++◌, append_assoc}
+use Prim.Native.Nat.{ℕ, ◌+◌, ◌-◌, ◌≤◌}
 use native.Mathlib.Omega.{arith}
 use native.Mathlib.Nat.{zero-add}
-use native.Mathlib.Numerals.{add-one}
-use lib.ListN.{length, take, drop, set, length-append}
-use lib.Seq.{length-take-le, take_at, set_split, append_snoc}
-use borrow.Author.Tests.{le-leb, lt-leb}
-use Rattle.wire.specs.Put.{put_at}
-use Rattle.wire.proofs.Puts.{put_fits, put_behind}
+use lib.ListN.{length, take, drop, length-append, length-drop}
+use lib.Seq.{length-take-le, take_at}
+use borrow.Author.Tests.{le-leb}
+use Rattle.wire.proofs.Puts.{put_behind}
 use Rattle.text.specs.Puts.{Fronts, Puts, Placed}
 
 -- a piece and another right behind it
@@ -37,19 +35,10 @@ wider h p = record { bytes = p.bytes; ends = p.ends; short = omega (arith, p.sho
 pub retext : {room : ℕ} {d : List ℕ} {at : ℕ} {s t d' : List ℕ} {e : ℕ} → s ≡ t → Puts room d at s d' e → Puts room d at t d' e
 retext {room} {d} {at} {s} {t} {d'} {e} q p = subst (λ (x : List ℕ). Puts room d at x d' e) q p
 
--- one byte stored
-pub one_byte : (d : List ℕ) (at b : ℕ) → at < length d → Puts 1 d at (b ∷ []) (set d at b) (at + 1)
-one_byte d at b h =
-    record {
-      bytes = set_split d at b h ∙ sym (append_snoc (take at d) b (drop (suc at) d)) ∙ ap (λ (n : ℕ). take at d ++ (b ∷ []) ++ drop n d) (sym (add-one at));
-      ends = refl;
-      short = omega arith;
-      within = omega arith;
-    }
-
--- bytes put whole
-pub word_put : (d : List ℕ) (at : ℕ) (s d' : List ℕ) → d' ≡ put_at d at s → at + length s ≤ length d → Puts (length s) d at s d' (at + length s)
-word_put d at s d' e h = record { bytes = e ∙ put_fits d at s h; ends = refl; short = omega arith; within = omega arith }
+-- a piece that fits keeps the length
+pub puts_length : {room : ℕ} {d : List ℕ} {at : ℕ} {s d' : List ℕ} {e : ℕ} → Puts room d at s d' e → at + room ≤ length d → length d' ≡ length d
+puts_length {d = d} {at = at} {s = s} p h =
+    ap length p.bytes ∙ simp (length-append, length-drop) (omega (arith, p.short, length-take-le at d p.within))
 
 -- where there is room a piece is put, else nothing
 module _ {room : ℕ} {d : List ℕ} {at : ℕ} {s d' : List ℕ} {e : ℕ} where
@@ -62,11 +51,6 @@ module _ {room : ℕ} {d : List ℕ} {at : ℕ} {s d' : List ℕ} {e : ℕ} wher
   placed_puts p h within =
       let l = le-leb room (length d - at) h in
       record { bytes = rw l at p.bytes; ends = rw l at p.ends; short = p.short h; within = within }
-
-pub none_placed : {room : ℕ} {d : List ℕ} {at : ℕ} {s : List ℕ} → length d - at < room → Placed room d at s d at
-none_placed {room} {d} {at} h =
-    let l = lt-leb room (length d - at) h in
-    record { bytes = rw l; ends = rw l; short = λ r. absurd (omega arith) }
 
 -- ---- at the front of a buffer
 
@@ -97,9 +81,6 @@ front_then {s = s} {d = d} {d₁ = d₁} {e = e} p q =
     })
     q)
 
--- what stands at the front stands within, and can be read there
-pub fronts_within : {s d d' : List ℕ} {e : ℕ} → Fronts s d d' e → e ≤ length d'
-fronts_within {s = s} {d = d} p = omega (arith, p.ends, ap length p.bytes ∙ length-append s (drop (length s) d))
-
+-- what stands at the front can be read there
 pub fronts_read : {s d d' : List ℕ} {e : ℕ} → Fronts s d d' e → take e d' ≡ s
 fronts_read {s} {d} {d'} {e} p = ap (take e) p.bytes ∙ take_at s (drop (length s) d) e (sym p.ends)

@@ -1,32 +1,26 @@
-// The lines of the log as text (document 01, the paragraph on the log program), each put into a lent buffer from byte `at` on. Each call answers the byte
-// after what it put.
+// The lines of the log as text (document 01, the paragraph on the log program), put on a page one behind the other.
+// Not by `Display`: nothing that `write!` promises says that it answers `Ok`, so a line with room would not be known to be put (tried).
 #![tactic(auto)]
 
 ghost use Rattle.std.specs.Prelude.{◌≡◌, [], ◌∷◌, ◌+◌, ◌-◌, ◌≤◌, length};
+ghost use Rattle.wire.specs.Reply.{refusal_number};
 ghost use Rattle.slave.specs.Answer.{option_of, notice_of, mark_of, report_of, answer_of};
 ghost use Rattle.text.specs.Decimal.{decimal, most_digits};
 ghost use Rattle.text.specs.Line.{label_text, notice_text, mark_text, report_text, numbered, refusal_text, line_of, site_line, end_line};
 ghost use Rattle.text.specs.Rooms.{column_room, mark_room, report_room, numbered_room, refusal_room, line_room, site_room, end_room};
 ghost use Rattle.text.specs.Puts.{Puts, Placed};
 
-use slave::{Answer, Counted, MarkPart, Maybe, NoticePart};
+use slave::{Counted, MarkPart, NoticePart};
+use wire::Refusal;
 
-// The fixed words: specs/Words.antt.
-const SITE_WORD: [u8; 5] = *b"site ";
+// The fixed words before numbers: specs/Words.antt.
+const SITE_WORD: &[u8] = b"site ";
 
-const CADENCE_WORD: [u8; 9] = *b" cadence ";
+const CADENCE_WORD: &[u8] = b" cadence ";
 
-const REFUSED_WORD: [u8; 8] = *b"refused ";
+const REFUSED_WORD: &[u8] = b"refused ";
 
-const END_WORD: [u8; 4] = *b"end ";
-
-const TAKEN_WORD: [u8; 5] = *b"taken";
-
-const SLIP_WORD: [u8; 4] = *b"slip";
-
-const UNTIMED_WORD: [u8; 7] = *b"untimed";
-
-const LATE_WORD: [u8; 4] = *b"late";
+const END_WORD: &[u8] = b"end ";
 
 // The most bytes that each part takes: specs/Rooms.antt.
 const MOST_DIGITS: usize = 20;
@@ -48,176 +42,174 @@ pub const SITE_ROOM: usize = SITE_WORD.len() + MOST_DIGITS + CADENCE_WORD.len() 
 
 pub const END_ROOM: usize = END_WORD.len() + NUMBER_ROOM;
 
-// How many digits a number has.
-fn places(n: u64) -> usize
-    ensures { result ≡ length (decimal n) }
-{
-    let mut k = 1;
-    let mut rest = n;
-    while 10 <= rest {
-        rest = rest / 10;
-        k += 1;
+// A lent buffer, and the byte that the next text begins at.
+#[derive(Drop)]
+pub struct Page<'a> {
+    pub out: &'a mut [u8],
+    pub at: usize,
+}
+
+impl<'a> Page<'a> {
+    // A fixed word.
+    fn word(&mut self, word: &[u8])
+        requires { self.old.at + length word.now ≤ length self.old.out.now }
+        ensures same { self.new.out.ghost_name ≡ self.old.out.ghost_name }
+        ensures puts { Puts (length word.now) self.old.out.now self.old.at word.now self.new.out.now self.new.at }
+    {
+        let end = self.at + word.len();
+        self.out[self.at..end].copy_from_slice(word);
+        self.at = end;
     }
-    k
-}
 
-// A number in decimal, the last digit first.
-fn put_decimal(out: &mut [u8], at: usize, n: u64) -> usize
-    requires { at + most_digits ≤ length out.old }
-    ensures { Puts most_digits out.old at (decimal n) out.new result }
-{
-    let k = places(n);
-    let end = at + k;
-    let mut i = end;
-    let mut rest = n;
-    while 10 <= rest {
-        i -= 1;
-        out[i] = 48 + (rest % 10) as u8;
-        rest = rest / 10;
+    // One byte.
+    fn byte(&mut self, b: u8)
+        requires { self.old.at + 1 ≤ length self.old.out.now }
+        ensures same { self.new.out.ghost_name ≡ self.old.out.ghost_name }
+        ensures puts { Puts 1 self.old.out.now self.old.at (b ∷ []) self.new.out.now self.new.at }
+    {
+        self.out[self.at] = b;
+        self.at += 1;
     }
-    out[at] = 48 + rest as u8;
-    end
-}
 
-// One byte.
-fn put_byte(out: &mut [u8], at: usize, b: u8) -> usize
-    requires { at + 1 ≤ length out.old }
-    ensures { Puts 1 out.old at (b ∷ []) out.new result }
-{
-    out[at] = b;
-    at + 1
-}
-
-// A fixed word.
-fn put_word(out: &mut [u8], at: usize, word: &[u8]) -> usize
-    requires { at + length word.now ≤ length out.old }
-    ensures { Puts (length word.now) out.old at word.now out.new result }
-{
-    wire::put(out, at, word);
-    at + word.len()
-}
-
-fn put_label(out: &mut [u8], at: usize, label: Maybe) -> usize
-    requires { at + column_room ≤ length out.old }
-    ensures { Puts column_room out.old at (label_text (option_of label)) out.new result }
-{
-    match label {
-        Maybe::Nothing => put_byte(out, at, b'-'),
-        Maybe::Just(x) => put_decimal(out, at, x as u64),
+    // A number in decimal.
+    #[tactic(auto, using(crate::proofs::Decimals::decimal_is, crate::proofs::Decimals::at_most_digits))]
+    fn decimal(&mut self, n: u64)
+        requires { self.old.at + most_digits ≤ length self.old.out.now }
+        ensures same { self.new.out.ghost_name ≡ self.old.out.ghost_name }
+        ensures puts { Puts most_digits self.old.out.now self.old.at (decimal n) self.new.out.now self.new.at }
+    {
+        let mut digits = itoa::Buffer::new();
+        self.word(digits.format(n).as_bytes());
     }
-}
 
-fn put_notice(out: &mut [u8], at: usize, notice: NoticePart) -> usize
-    requires { at + column_room ≤ length out.old }
-    ensures { Puts column_room out.old at (notice_text (notice_of notice)) out.new result }
-{
-    match notice {
-        NoticePart::Absent => put_byte(out, at, b'-'),
-        NoticePart::Taken => put_word(out, at, &TAKEN_WORD),
-        NoticePart::Slip => put_word(out, at, &SLIP_WORD),
-        NoticePart::Ignored(k) => put_decimal(out, at, k as u64),
-    }
-}
-
-fn put_mark(out: &mut [u8], at: usize, mark: MarkPart) -> usize
-    requires { at + mark_room ≤ length out.old }
-    ensures { Puts mark_room out.old at (mark_text (mark_of mark)) out.new result }
-{
-    match mark {
-        MarkPart::Unmarked => put_byte(out, at, b'-'),
-        MarkPart::Untimed => put_word(out, at, &UNTIMED_WORD),
-        MarkPart::DvbLate => put_word(out, at, &LATE_WORD),
-        MarkPart::Dvb(t) => {
-            let steps = t.emission;
-            put_decimal(out, at, steps.0 as u64)
-        }
-        MarkPart::A110Late => put_word(out, at, &LATE_WORD),
-        MarkPart::A110(t) => {
-            let periods = t.emission;
-            put_decimal(out, at, periods.0 as u64)
+    fn label(&mut self, label: Option<u16>)
+        requires { self.old.at + column_room ≤ length self.old.out.now }
+        ensures same { self.new.out.ghost_name ≡ self.old.out.ghost_name }
+        ensures puts { Puts column_room self.old.out.now self.old.at (label_text (option_of label)) self.new.out.now self.new.at }
+    {
+        match label {
+            None => self.byte(b'-'),
+            Some(x) => self.decimal(x.into()),
         }
     }
-}
 
-// The columns of a packet that was counted.
-fn put_report(out: &mut [u8], at: usize, c: Counted) -> usize
-    requires { at + report_room ≤ length out.old }
-    ensures { Puts report_room out.old at (report_text (report_of c)) out.new result }
-{
-    let label = c.label;
-    let notice = c.notice;
-    let mark = c.mark;
-    let first = put_label(out, at, label);
-    let second = put_byte(out, first, b' ');
-    let third = put_notice(out, second, notice);
-    let fourth = put_byte(out, third, b' ');
-    let fifth = put_mark(out, fourth, mark);
-    put_byte(out, fifth, b'\n')
-}
-
-// A word and its number at the end of a line.
-fn put_numbered(out: &mut [u8], at: usize, word: &[u8], n: u64) -> usize
-    requires { at + numbered_room word.now ≤ length out.old }
-    ensures { Puts (numbered_room word.now) out.old at (numbered word.now n) out.new result }
-{
-    let number = put_word(out, at, word);
-    let end = put_decimal(out, number, n);
-    put_byte(out, end, b'\n')
-}
-
-// How many bytes there are from byte `at` on.
-fn room_from(len: usize, at: usize) -> usize
-    ensures { result ≡ len - at }
-{
-    if len < at {
-        return 0;
+    fn notice(&mut self, notice: NoticePart)
+        requires { self.old.at + column_room ≤ length self.old.out.now }
+        ensures same { self.new.out.ghost_name ≡ self.old.out.ghost_name }
+        ensures puts { Puts column_room self.old.out.now self.old.at (notice_text (notice_of notice)) self.new.out.now self.new.at }
+    {
+        match notice {
+            NoticePart::Absent => self.byte(b'-'),
+            NoticePart::Taken => self.word(b"taken"),
+            NoticePart::Slip => self.word(b"slip"),
+            NoticePart::Ignored(r) => self.decimal(r.number().into()),
+        }
     }
-    len - at
-}
 
-// A refusal, with its number. Here and below nothing is put where there is too little room.
-pub fn put_refusal(out: &mut [u8], at: usize, k: u8) -> usize
-    ensures { Placed refusal_room out.old at (refusal_text k) out.new result }
-{
-    if room_from(out.len(), at) < REFUSAL_ROOM {
-        return at;
+    fn mark(&mut self, mark: MarkPart)
+        requires { self.old.at + mark_room ≤ length self.old.out.now }
+        ensures same { self.new.out.ghost_name ≡ self.old.out.ghost_name }
+        ensures puts { Puts mark_room self.old.out.now self.old.at (mark_text (mark_of mark)) self.new.out.now self.new.at }
+    {
+        match mark {
+            MarkPart::Unmarked => self.byte(b'-'),
+            MarkPart::Untimed => self.word(b"untimed"),
+            MarkPart::Dvb(None) | MarkPart::A110(None) => self.word(b"late"),
+            MarkPart::Dvb(Some(t)) => self.decimal(t.emission.0.into()),
+            MarkPart::A110(Some(t)) => self.decimal(t.emission.0.into()),
+        }
     }
-    put_numbered(out, at, &REFUSED_WORD, k as u64)
-}
 
-// The line of a record that was answered.
-pub fn put_line(out: &mut [u8], at: usize, number: u64, answer: Answer) -> usize
-    ensures { Placed line_room out.old at (line_of number (answer_of answer)) out.new result }
-{
-    if room_from(out.len(), at) < LINE_ROOM {
-        return at;
+    // The columns of a packet that was counted.
+    fn report(&mut self, c: Counted)
+        requires { self.old.at + report_room ≤ length self.old.out.now }
+        ensures same { self.new.out.ghost_name ≡ self.old.out.ghost_name }
+        ensures puts { Puts report_room self.old.out.now self.old.at (report_text (report_of c)) self.new.out.now self.new.at }
+    {
+        self.label(c.label);
+        self.byte(b' ');
+        self.notice(c.notice);
+        self.byte(b' ');
+        self.mark(c.mark);
+        self.byte(b'\n');
     }
-    let end = put_decimal(out, at, number);
-    let column = put_byte(out, end, b' ');
-    match answer {
-        Answer::Refused(k) => put_numbered(out, column, &REFUSED_WORD, k as u64),
-        Answer::Counted(c) => put_report(out, column, c),
-    }
-}
 
-// The site line.
-pub fn put_site(out: &mut [u8], at: usize, site: u16, n: u16) -> usize
-    ensures { Placed site_room out.old at (site_line site n) out.new result }
-{
-    if room_from(out.len(), at) < SITE_ROOM {
-        return at;
+    // A word and its number at the end of a line.
+    fn numbered(&mut self, word: &[u8], n: u64)
+        requires { self.old.at + numbered_room word.now ≤ length self.old.out.now }
+        ensures same { self.new.out.ghost_name ≡ self.old.out.ghost_name }
+        ensures puts { Puts (numbered_room word.now) self.old.out.now self.old.at (numbered word.now n) self.new.out.now self.new.at }
+    {
+        self.word(word);
+        self.decimal(n);
+        self.byte(b'\n');
     }
-    let number = put_word(out, at, &SITE_WORD);
-    let end = put_decimal(out, number, site as u64);
-    put_numbered(out, end, &CADENCE_WORD, n as u64)
-}
 
-// The end line.
-pub fn put_end(out: &mut [u8], at: usize, count: u64) -> usize
-    ensures { Placed end_room out.old at (end_line count) out.new result }
-{
-    if room_from(out.len(), at) < END_ROOM {
-        return at;
+    // A refusal at the end of a line.
+    fn refused(&mut self, r: Refusal)
+        requires { self.old.at + refusal_room ≤ length self.old.out.now }
+        ensures same { self.new.out.ghost_name ≡ self.old.out.ghost_name }
+        ensures puts { Puts refusal_room self.old.out.now self.old.at (refusal_text (refusal_number r)) self.new.out.now self.new.at }
+    {
+        self.numbered(REFUSED_WORD, r.number().into());
     }
-    put_numbered(out, at, &END_WORD, count)
+
+    // How many bytes there are from byte `at` on.
+    fn room(&self) -> usize
+        ensures { result ≡ length self.now.out.now - self.now.at }
+    {
+        self.out.len().saturating_sub(self.at)
+    }
+
+    // A refusal, with its number. Here and below nothing is put where there is too little room.
+    pub fn refusal(&mut self, r: Refusal)
+        ensures same { self.new.out.ghost_name ≡ self.old.out.ghost_name }
+        ensures placed { Placed refusal_room self.old.out.now self.old.at (refusal_text (refusal_number r)) self.new.out.now self.new.at }
+    {
+        if self.room() < REFUSAL_ROOM {
+            return;
+        }
+        self.refused(r);
+    }
+
+    // The line of a record that was answered.
+    pub fn line(&mut self, number: u64, answer: Result<Counted, Refusal>)
+        ensures same { self.new.out.ghost_name ≡ self.old.out.ghost_name }
+        ensures placed { Placed line_room self.old.out.now self.old.at (line_of number (answer_of answer)) self.new.out.now self.new.at }
+    {
+        if self.room() < LINE_ROOM {
+            return;
+        }
+        self.decimal(number);
+        self.byte(b' ');
+        match answer {
+            Ok(c) => self.report(c),
+            Err(r) => self.refused(r),
+        }
+    }
+
+    // The site line.
+    pub fn site(&mut self, site: u16, n: u16)
+        ensures same { self.new.out.ghost_name ≡ self.old.out.ghost_name }
+        ensures placed { Placed site_room self.old.out.now self.old.at (site_line site n) self.new.out.now self.new.at }
+    {
+        if self.room() < SITE_ROOM {
+            return;
+        }
+        self.word(SITE_WORD);
+        self.decimal(site.into());
+        self.numbered(CADENCE_WORD, n.into());
+    }
+
+    // The end line.
+    #[tactic(auto, unfolding(crate::specs::Line::end_line), using(crate::proofs::Putting::puts_placed))]
+    pub fn end(&mut self, count: u64)
+        ensures same { self.new.out.ghost_name ≡ self.old.out.ghost_name }
+        ensures placed { Placed end_room self.old.out.now self.old.at (end_line count) self.new.out.now self.new.at }
+    {
+        if self.room() < END_ROOM {
+            return;
+        }
+        self.numbered(END_WORD, count);
+    }
 }

@@ -3,4 +3,4 @@ use Rattle.std.proofs.Common.{◌≤◌, length}
 use Rattle.capture_log.proofs.follow.Given as goal
 
 abbrev pub invariant-loop : goal.invariant-loop
-invariant-loop l = l.at.held ≤ length l.input
+invariant-loop l = l.held ≤ length l.input

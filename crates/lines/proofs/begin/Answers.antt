@@ -6,4 +6,4 @@ use Rattle.lines.proofs.begin.Goals as goal
 pub returns : goal.returns
 unfolding opening_of
 returns c =
-    (c.begun_by-started.ensures, refront (λ j. opened_by (c.board_in-board.ensures j) (c.begun_by-started.ensures j).reply) c.put_opening-filled.ensures)
+    (c.begun_by-started.ensures, refront (λ j. opened_by (c.board_in.ensures j) (c.begun_by-started.ensures j).reply) c.put_opening-filled.ensures)
