@@ -93,12 +93,7 @@ fn run(rt: &HostRuntime) -> Result<(), Failure> {
         slave: begun.started.slave,
         number: 0,
     };
-    follow(
-        rt,
-        &mut log,
-        &mut [0; INPUT_ROOM],
-        &mut [0; OUTPUT_ROOM],
-    )
+    follow(rt, &mut log, &mut [0; INPUT_ROOM], &mut [0; OUTPUT_ROOM])
 }
 
 // What failed and why is said on standard error.

@@ -182,9 +182,7 @@ fn check_body(p: &[u8]) -> Result<(), Refusal>
     if !addressing::well_formed(addressing_part(p)) {
         return Err(Refusal::AddressingForm);
     }
-    if !times::in_second(synchronization_time_stamp(p))
-        || !times::in_second(maximum_delay(p))
-    {
+    if !times::in_second(synchronization_time_stamp(p)) || !times::in_second(maximum_delay(p)) {
         return Err(Refusal::Times);
     }
     Ok(())

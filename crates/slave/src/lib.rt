@@ -158,10 +158,12 @@ fn arrived(r: Ready<'_>, p: &[u8]) -> Way
 fn given(r: Ready<'_>, p: &[u8], x: Numbers) -> Way
     ensures { way_of r.entry.slave.now (Ok result) ≡ step_of r.entry.slave.now (judge_given r.entry.slave.now.board r.entry.slave.now.settings p.now x) r.entry.tick }
 {
-    Way::Moved(match judging::judge_given(r.slave.board, r.slave.settings, p, x) {
-        Ok(t) => r.take(t),
-        Err(k) => r.ignore(k),
-    })
+    Way::Moved(
+        match judging::judge_given(r.slave.board, r.slave.settings, p, x) {
+            Ok(t) => r.take(t),
+            Err(k) => r.ignore(k),
+        },
+    )
 }
 
 // What a packet with its arrival tick does. Each thing is judged once, in document 01's order: 15, then 1 to 3, then 4 and 6 to 13.

@@ -113,7 +113,11 @@ impl Arrival {
 fn second_of(profile: u8) -> u32
     ensures { result ≡ second profile }
 {
-    if profile == 1 { times::A110_SECOND } else { times::DVB_SECOND }
+    if profile == 1 {
+        times::A110_SECOND
+    } else {
+        times::DVB_SECOND
+    }
 }
 
 impl Ready<'_> {

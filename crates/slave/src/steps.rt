@@ -197,7 +197,12 @@ impl Ready<'_> {
         let count = self.slave.count;
         Short {
             next: next_label(self.slave.board.n, count.next),
-            report: counted(count.next, count.index, NoticePart::Absent, MarkPart::Unmarked),
+            report: counted(
+                count.next,
+                count.index,
+                NoticePart::Absent,
+                MarkPart::Unmarked,
+            ),
         }
     }
 

@@ -1,5 +1,6 @@
 -- Each record is what the iterator gives next, and its line is put behind the others, in room that the output still has.
 use Rattle.std.proofs.Common.{◌*◌, arith, rules}
+use Rattle.slave.specs.Answer.{left}
 use Rattle.text.proofs.Putting.{placed_puts}
 use Rattle.lines.proofs.Going.{going_first, going_last, going_on}
 use Rattle.lines.proofs.Log.records.Goals as goal
@@ -16,7 +17,7 @@ loop-record-preserved c =
       search rules,
       search rules,
       search rules,
-      going_on _ _ _ _ _ l.invariant.4 c.in-Some.record.now (search rules) (search rules) c.number32_at-tick.ensures c.packet-answer.ensures (placed_puts c.line.ensures.placed (search rules) (search rules)),
+      going_on _ _ _ _ _ l.invariant.4 c.in-Some.record.now (search rules) (search rules) c.number32_at-tick.ensures (λ i. left (c.packet-answer.ensures.0 i) (c.packet-answer.ensures.1 i)) (placed_puts c.line.ensures.placed (search rules) (search rules)),
     )
 
 pub returns-clause-handled : goal.returns-clause-handled
