@@ -1,7 +1,7 @@
 // The Mega-frame Initialization Packet, TS 101 191 clause 6, written into a lent buffer.
 #![tactic(auto)]
 
-ghost use Rattle.std.specs.Prelude.{◌≡◌, ◌≤◌, OnOk};
+ghost use Rattle.std.specs.Prelude.{◌≡◌, ◌≤◌, OnOk, length};
 ghost use Rattle.wire.specs.Standards.{longest_addressing};
 ghost use Rattle.wire.specs.Reply.{reply, reply_of};
 ghost use Rattle.writer.specs.Writable.{Writable};
@@ -83,6 +83,16 @@ fn head_of(n: Notice, a: u8) -> [u8; ADDRESSING_START]
     ]
 }
 
+// Puts all of src over dst. Byte by byte: copy_from_slice would ask the board for memmove, where the compiler does not know the length.
+fn put_over(dst: &mut [u8], src: &[u8])
+    requires { length dst.old ≡ length src.now }
+    ensures { dst.new ≡ src.now }
+{
+    for (k, b) in src.iter().enumerate() {
+        dst[k] = *b;
+    }
+}
+
 // Writes a notice into the first 188 bytes of a lent buffer; a refusal leaves it as it was.
 #[tactic(auto, unfolding(crate::specs::Writer::write_of))]
 pub fn write_notice(out: &mut [u8], n: Notice, field: &[u8]) -> Result<(), Refusal>
@@ -93,7 +103,7 @@ pub fn write_notice(out: &mut [u8], n: Notice, field: &[u8]) -> Result<(), Refus
     out[..ADDRESSING_START].copy_from_slice(&head_of(n, field.len() as u8));
     // The stuffing goes first, where its length is a constant, and the field and the check value over it.
     out[ADDRESSING_START..PACKET_LENGTH].fill(0xFF);
-    out[ADDRESSING_START..end].copy_from_slice(field);
+    put_over(&mut out[ADDRESSING_START..end], field);
     check_value::seal(out, end);
     Ok(())
 }

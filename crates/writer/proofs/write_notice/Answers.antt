@@ -16,4 +16,4 @@ returns c =
     let filled : c.fill.new.self ≡ stuffing 167 = c.fill.ensures.after (λ y e. e) ∙ ap (λ (k : ℕ). replicate {A = ℕ} k 255) rest in
     written a.n a.field.now a.out.now _ w.numbers
     (packet_put a.n a.field.now a.out.now c.seal.new.out w.fits.short w.fits.room
-    (rw (c.copy_from_slice.ensures.after, c.head_of.ensures, filled, c.copy_from_slice-2.ensures.after) at c.seal.ensures))
+    (rw (c.copy_from_slice.ensures.after, c.head_of.ensures, filled, c.put_over.ensures) at c.seal.ensures))
