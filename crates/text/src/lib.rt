@@ -49,7 +49,7 @@ pub struct Page<'a> {
     pub at: usize,
 }
 
-impl<'a> Page<'a> {
+impl Page<'_> {
     // A fixed word.
     fn word(&mut self, word: &[u8])
         requires { self.old.at + length word.now ≤ length self.old.out.now }
