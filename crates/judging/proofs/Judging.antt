@@ -6,10 +6,9 @@ use Prim.Native.Nat.{ℕ, zero, suc, ◌<◌}
 use native.Mathlib.Omega.{arith}
 use lib.Dec.{eqb, ltb}
 use lib.ListN.{length, get_or}
-use borrow.Author.Tests.{eq-eqb, ltb-true}
+use Rattle.std.proofs.lemmas.Bool.Decides.{nat_tests}
 use Rattle.wire.specs.Reply.{Reply, refused, given}
 use Rattle.wire.specs.Standards.{packet_length, sync_byte}
-use Rattle.wire.proofs.Tests.{passed}
 use Rattle.times.specs.Release.{in_second}
 use Rattle.addressing.specs.Entries.{settings_of}
 use Rattle.addressing.specs.declared.Settings.{Settings}
@@ -32,15 +31,12 @@ module _ (profile : ℕ) (p : List ℕ) (tick : ℕ) where
   module _ (l : length p ≡ packet_length) (s : get_or p 0 0 ≡ sync_byte) where
     pub arrival_3 : in_second (second profile) tick ≡ false → 3 ≡ arrival_refusal profile p tick
     unfolding arrival_refusal
-    arrival_3 h = rw (eq-eqb (length p) packet_length l, eq-eqb (get_or p 0 0) sync_byte s, h)
+    arrival_3 h = grind (arith, nat_tests)
 
   -- a packet that is not refused has a tick of the second
   pub arrived_tick : arrival_refusal profile p tick ≡ 0 → in_second (second profile) tick ≡ true
   unfolding arrival_refusal
-  arrived_tick e =
-      let a = passed (eqb (length p) packet_length) _ _ e in
-      let b = passed (eqb (get_or p 0 0) sync_byte) _ _ a.1 in
-      (passed (in_second (second profile) tick) _ _ b.1).0
+  arrived_tick e = grind (arith, nat_tests)
 
 -- ---- a notice that is otherwise right: 11 to 13
 module _ (b : Board) (t : Taken) where
@@ -66,18 +62,12 @@ module _ (b : Board) (t : Taken) where
 
   pub limits_kept : taken_refusal b t ≡ 0 → Limits
   unfolding taken_refusal
-  limits_kept e =
-      let p = passed sts_fits _ _ e in
-      let q = passed md_fits _ _ p.1 in
-      let r = passed (ltb t.pointer b.n) _ _ q.1 in
-      let s = passed index_fits _ _ r.1 in
-      let u = passed delay_in_second _ _ s.1 in
-      record { sts = p.0; md = q.0; pointer = ltb-true _ _ r.0; index = s.0; delay = u.0 }
+  limits_kept e = grind (arith, nat_tests)
 
 -- ---- what a notice that is taken has kept
 -- a counted packet takes none
 untaken : {k : ℕ} {x : Taken} {X : Type 0} → Counts k ≡ Takes x → X
-untaken e = let z : ◌≡◌ {A = ℕ} 0 1 = cc in absurd (omega arith)
+untaken e = absurd cc
 
 unignored : (k : ℕ) (j : Judgement) (x : Taken) → unless_ignored k j ≡ Takes x → (k ≡ 0) × (j ≡ Takes x)
 unignored zero j x e = (refl, e)
