@@ -1,16 +1,17 @@
 -- What a judgement depends on: frequency and power do not matter to it. And what a notice that is taken keeps.
-use mathlib.Core.Path.{◌≡◌, refl, sym, ◌∙◌, subst}
-use mathlib.Core.Bool.{Bool, true, false, cond, false≢true}
+use mathlib.Core.Path.{◌≡◌, refl, subst}
+use mathlib.Core.Bool.{true, false}
 use mathlib.Core.List.{List}
-use Prim.Native.Nat.{ℕ, zero, suc, ◌-◌}
+use Prim.Native.Nat.{ℕ, zero, suc}
 use native.Mathlib.Omega.{arith}
-use lib.Dec.{eqb, ltb}
-use lib.IntN.{ℤ, pos, negsuc}
-use borrow.Author.Tests.{ltb-false, le-leb}
+use lib.Dec.{eqb}
+use lib.IntN.{ℤ}
+use Rattle.std.proofs.lemmas.Bool.Decides.{nat_tests}
+use Rattle.std.proofs.lemmas.Int.{ints}
 use Rattle.wire.specs.Reply.{Reply, refused, given}
 use Rattle.wire.specs.BigEndian.{be24_at}
 use Rattle.wire.specs.Signed.{signed24}
-use Rattle.wire.proofs.Tests.{both, join, pick, split, pair, no}
+use Rattle.wire.proofs.Tests.{pick, split, pair}
 use Rattle.cadence.specs.Cadence.{admits}
 use Rattle.addressing.specs.Functions.{set_by}
 use Rattle.addressing.specs.Entries.{settings_of}
@@ -109,11 +110,7 @@ module _ (P : Taken → Type 0) where
 -- an addressing field keeps the frequency within its bits
 signed_fits : (v : ℕ) → frequency_fits (signed24 v) ≡ true
 unfolding frequency_fits
-signed_fits v = go (ltb v 8_388_608) refl
-  where
-    go : (b : Bool) → ltb v 8_388_608 ≡ b → frequency_fits (cond b (pos v) (negsuc (16_777_215 - v))) ≡ true
-    go true e = e
-    go false e = join (le-leb (16_777_215 - v) 8_388_607 (omega (arith, ltb-false v 8_388_608 e))) refl
+signed_fits v = grind (arith, ints, nat_tests)
 
 abbrev InBits : Settings → Settings → Type 0
 InBits t u = frequency_fits u.frequency ≡ true
@@ -126,11 +123,7 @@ bits_kept tag body t u h =
 -- a profile that has cadences and is not 0 is 1
 other_profile : (profile n : ℕ) → admits profile n ≡ true → eqb profile 0 ≡ false → eqb profile 1 ≡ true
 unfolding admits
-other_profile profile n ok z = go (eqb profile 1) refl
-  where
-    go : (b : Bool) → eqb profile 1 ≡ b → b ≡ true
-    go true e = refl
-    go false e = absurd (false≢true (sym z ∙ (both (eqb profile 0) _ (sym (no (eqb profile 1) _ _ e) ∙ ok)).0))
+other_profile profile n ok z = grind (arith, nat_tests)
 
 module _ (b : Board) where
   limited_fit : (x : Taken) → frequency_fits x.settings.frequency ≡ true → (Limits b x → index_fits b.profile x.index ≡ true)
