@@ -1,11 +1,12 @@
-// The replies of the calls as plain numbers, for C: what a reply has not is 0 or false.
+// The replies of the calls as plain numbers, for C: what a reply has not is 0 or false. C has no Option and no enum with values: a flag or a kind stands
+// beside its value.
 #![tactic(auto)]
 
 ghost use Rattle.std.specs.Prelude.{◌≡◌};
 ghost use Rattle.wire.specs.Reply.{refused, number_of, reply_of};
 ghost use Rattle.times.specs.Answer.{times_in};
 ghost use Rattle.slave.specs.Answer.{notice_of, mark_of, report_of};
-ghost use Rattle.replies.specs.Flat.{notice_kind, notice_number, no_times, flat_times, flat_mark, flat_report, flat_reply};
+ghost use Rattle.replies.specs.Flat.{notice_kind, notice_number, flat_times, flat_mark, flat_report, flat_reply};
 
 use slave::{Answer, Counted, MarkPart, NoticePart};
 use state::Slave;
@@ -68,38 +69,31 @@ impl<T: Unit> From<Times<T>> for MarkTimes {
     }
 }
 
-// A mark without times.
-fn no_times(kind: u8, number: u8) -> Mark
-    ensures { result ≡ record { kind = kind; number = number; times = no_times } }
-{
-    Mark {
-        kind,
-        number,
-        times: MarkTimes::default(),
-    }
-}
-
-// A mark that is released.
-fn released(kind: u8, times: MarkTimes) -> Mark
-    ensures { result ≡ record { kind = kind; number = 0; times = times } }
-{
-    Mark {
-        kind,
-        number: 0,
-        times,
-    }
-}
-
 impl From<MarkPart> for Mark {
     ghost from_gives = { λ m r. r ≡ flat_mark (mark_of m) };
 
     fn from(m: MarkPart) -> Mark {
         match m {
-            MarkPart::Unmarked => no_times(0, 0),
-            MarkPart::Untimed => no_times(1, 0),
-            MarkPart::Dvb(None) | MarkPart::A110(None) => no_times(2, Refusal::Late.number()),
-            MarkPart::Dvb(Some(t)) => released(3, t.into()),
-            MarkPart::A110(Some(t)) => released(4, t.into()),
+            MarkPart::Unmarked => Mark::default(),
+            MarkPart::Untimed => Mark {
+                kind: 1,
+                ..Mark::default()
+            },
+            MarkPart::Dvb(None) | MarkPart::A110(None) => Mark {
+                kind: 2,
+                number: Refusal::Late.number(),
+                ..Mark::default()
+            },
+            MarkPart::Dvb(Some(t)) => Mark {
+                kind: 3,
+                times: t.into(),
+                ..Mark::default()
+            },
+            MarkPart::A110(Some(t)) => Mark {
+                kind: 4,
+                times: t.into(),
+                ..Mark::default()
+            },
         }
     }
 }

