@@ -17,8 +17,8 @@
  * can be used from different threads at once.
  *
  * THE LIBRARY
- * libvikombare.a is built for x86-64 with the ABI of Linux (System V); for other processors there is none today. It asks for memset and nothing else of
- * the C library. On bare metal it needs what that ABI takes for granted:
+ * libvikombare.a is built for x86-64 with the ABI of Linux (System V); for other processors there is none today. It asks for memset at most of the C
+ * library. On bare metal it needs what that ABI takes for granted:
  *  - SSE2 is switched on, and whoever interrupts a call keeps the general and the SSE registers; x87 and AVX are not used;
  *  - the 128 bytes below the stack pointer (the red zone) are the call's own: an interrupt runs on another stack, or steps over them;
  *  - the stack is aligned to 16 bytes at each call and has 2 KiB left.
