@@ -73,7 +73,7 @@ fn put_opening(b: Board, outcome: Result<(), Refusal>, out: &mut [u8; OPENING_RO
     let mut page = Page { out, at: 0 };
     match outcome {
         Ok(()) => page.site(b.site, b.n),
-        Err(r) => page.refusal(r),
+        Err(r) => page.refusal(r.number()),
     }
     page.at
 }

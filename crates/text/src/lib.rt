@@ -3,7 +3,6 @@
 #![tactic(auto)]
 
 ghost use Rattle.std.specs.Prelude.{◌≡◌, [], ◌∷◌, ◌+◌, ◌-◌, ◌≤◌, length};
-ghost use Rattle.wire.specs.Reply.{refusal_number};
 ghost use Rattle.slave.specs.Answer.{option_of, notice_of, mark_of, report_of, answer_of};
 ghost use Rattle.text.specs.Decimal.{decimal, most_digits};
 ghost use Rattle.text.specs.Line.{label_text, notice_text, mark_text, report_text, numbered, refusal_text, line_of, site_line, end_line};
@@ -145,13 +144,13 @@ impl Page<'_> {
         self.byte(b'\n');
     }
 
-    // A refusal at the end of a line.
-    fn refused(&mut self, r: Refusal)
+    // A refusal's number at the end of a line.
+    fn refused(&mut self, k: u8)
         requires { self.old.at + refusal_room ≤ length self.old.out.now }
         ensures same { self.new.out.ghost_name ≡ self.old.out.ghost_name }
-        ensures puts { Puts refusal_room self.old.out.now self.old.at (refusal_text (refusal_number r)) self.new.out.now self.new.at }
+        ensures puts { Puts refusal_room self.old.out.now self.old.at (refusal_text k) self.new.out.now self.new.at }
     {
-        self.numbered(REFUSED_WORD, r.number().into());
+        self.numbered(REFUSED_WORD, k.into());
     }
 
     // How many bytes there are from byte `at` on.
@@ -162,14 +161,14 @@ impl Page<'_> {
     }
 
     // A refusal, with its number. Here and below nothing is put where there is too little room.
-    pub fn refusal(&mut self, r: Refusal)
+    pub fn refusal(&mut self, k: u8)
         ensures same { self.new.out.ghost_name ≡ self.old.out.ghost_name }
-        ensures placed { Placed refusal_room self.old.out.now self.old.at (refusal_text (refusal_number r)) self.new.out.now self.new.at }
+        ensures placed { Placed refusal_room self.old.out.now self.old.at (refusal_text k) self.new.out.now self.new.at }
     {
         if self.room() < REFUSAL_ROOM {
             return;
         }
-        self.refused(r);
+        self.refused(k);
     }
 
     // The line of a record that was answered.
@@ -184,7 +183,7 @@ impl Page<'_> {
         self.byte(b' ');
         match answer {
             Ok(c) => self.report(c),
-            Err(r) => self.refused(r),
+            Err(r) => self.refused(r.number()),
         }
     }
 

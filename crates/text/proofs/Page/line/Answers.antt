@@ -8,7 +8,7 @@ pub returns-in-Err-clause-placed : goal.returns-in-Err-clause-placed
 unfolding line_of
 returns-in-Err-clause-placed c =
     puts_placed (search rules)
-    (rw c.in-Err.is (wider (omega arith) (then (then c.decimal.ensures.puts c.byte.ensures.puts) c.refused.ensures.puts)))
+    (rw (c.in-Err.is, ← c.number.ensures) (wider (omega arith) (then (then c.decimal.ensures.puts c.byte.ensures.puts) c.refused.ensures.puts)))
 
 pub returns-in-Ok-clause-placed : goal.returns-in-Ok-clause-placed
 unfolding line_of
