@@ -1,5 +1,5 @@
 // A packet and a numbers notice by value: the slave goes in, and comes back with the reply, as the slave's answer or as plain numbers for C. Each has two
-// forms, since what C takes can have no type parameter: `Step` is C's, and `Stepped` has the answer in Rust's form.
+// forms, since what C is given can have no type parameter: `Step` is C's, `Stepped` Rust's, and one generic form would ask for a conversion to `Step` besides.
 #![tactic(auto)]
 
 ghost use Rattle.std.specs.Prelude.{◌≡◌};
