@@ -58,12 +58,13 @@ fn set_by(on: bool, function: &[u8], t: Settings) -> Result<Settings, Refusal>
     Ok(if on { told } else { t })
 }
 
-// The settings after the functions of a loop, where they apply.
+// The settings after the functions of a loop, where they apply: the form of every loop is judged, so that `on` says no more than what enters.
 #[tactic(auto, using(crate::proofs::Turns::functions_turns))]
 fn functions(on: bool, mut s: &[u8], before: Settings) -> Result<Settings, Refusal>
     ensures { reply_of result ≡ functions_of on s.now before }
 {
     let mut t = before;
+    // `as` is proved to lose nothing; the answers speak of the byte itself
     while let [_, n, ..] = s {
         let (function, rest) = s
             .split_at_checked(*n as usize)
@@ -84,6 +85,7 @@ pub fn settings_of(mut s: &[u8], site: u16, before: Settings) -> Result<Settings
     ensures { reply_of result ≡ settings_of s.now site before }
 {
     let mut t = before;
+    // `as` is proved to lose nothing
     while let [high, low, n, rest @ ..] = s {
         let (entry, rest) = rest
             .split_at_checked(*n as usize)

@@ -84,7 +84,7 @@ impl CodeRate {
     }
 }
 
-// The packets of a mega-frame: 2016 × v × r.
+// The packets of a mega-frame: 2016 × v × r. A cast by `as` is proved to lose nothing, here and below: `try_from` would have an answer that never comes.
 pub fn length(c: Constellation, r: CodeRate) -> u16
     ensures { result ≡ length_of c r }
 {
@@ -107,7 +107,7 @@ fn is_mega_frame(n: u16) -> bool
     CONSTELLATIONS.iter().any(|c| at_some_rate(n, *c))
 }
 
-// Whether the profile has cadences of n packets.
+// Whether the profile has cadences of n packets. The profile is a number: C lends the slaves that have it, and any byte may stand there.
 #[tactic(auto, unfolding(crate::specs::Cadence::admits))]
 pub fn admits(profile: u8, n: u16) -> bool
     ensures { result ≡ admits profile n }
@@ -141,5 +141,5 @@ pub fn pointer_of(n: u16, label: u16) -> Result<u16, Refusal>
 pub fn mobile_place(i: u8, p: u16) -> u16
     ensures { result ≡ mobile_place i p }
 {
-    ((37 + 624 * (i as u32) + (p as u32)) % 12480) as u16
+    ((37 + 624 * u32::from(i) + u32::from(p)) % 12480) as u16
 }

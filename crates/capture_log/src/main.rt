@@ -65,7 +65,8 @@ fn follow(
     write(rt, &last[..end])
 }
 
-// Reads until the buffer is full, the input ends or a read fails, and answers how many bytes came.
+// Reads until the buffer is full, the input ends or a read fails, and answers how many bytes came. A read gives as many bytes as it likes, so no iterator
+// fits, and the library's read_exact does not say how many came.
 fn read_full(rt: &HostRuntime, buf: &mut [u8]) -> usize
     ensures { result ≤ length buf.new }
 {

@@ -89,6 +89,7 @@ static LEFT: [[u32; 16]; 16] = [
 ];
 
 // What eight bytes leave of a register of zeros. The loop is compiled to sixteen loads, those of the last bytes first: they do not wait for the register.
+// A cast by `as` is proved to lose nothing, here and below.
 fn eight_in(w: u64) -> u32
     ensures { result ≡ bits_in 64 0 w }
 {
@@ -122,7 +123,7 @@ pub fn register_of(s: &[u8]) -> u32
     z
 }
 
-// Puts the check value of the first `end` bytes behind them; puts nothing where it does not fit.
+// Puts the check value of the first `end` bytes behind them; puts nothing where it does not fit. The end is a number, since what lies behind it is written.
 #[tactic(auto, unfolding(crate::specs::Register::sealed_at, wire::specs::Put::put_at))]
 pub fn seal(out: &mut [u8], end: usize)
     ensures { out.new ≡ sealed_at end out.old }

@@ -1,4 +1,5 @@
-// How a packet and a numbers notice are judged (document 01, "Numbers a call can refuse with").
+// How a packet and a numbers notice are judged (document 01, "Numbers a call can refuse with"): by the start's settings, those in force and the call. Not by
+// a slave, whose count and waiting notice no judgement sees.
 #![tactic(auto)]
 
 ghost use Rattle.std.specs.Prelude.{◌≡◌, ◌||◌, eqb, ltb};
@@ -8,10 +9,10 @@ ghost use Rattle.judging.specs.Judge.{arrival_refusal, carries, taken_refusal, l
 
 use addressing::Settings;
 use state::{Board, UNKNOWN_INDEX};
-use times::Periods;
+use times::{Periods, Steps, Unit};
 use wire::Refusal;
 
-// What a numbers notice carries: profile 1 alone has it. The index is the next mark's, 255 for unknown.
+// What a numbers notice carries: profile 1 alone has it. The index is the next mark's, 255 for unknown: a number, since C lends it with any byte there.
 #[repr(C)]
 #[derive(Clone, Copy)]
 pub struct Numbers {
@@ -22,7 +23,7 @@ pub struct Numbers {
     pub index: u8,
 }
 
-// What a notice that is taken gives, in the profile's own unit.
+// What a notice that is taken gives, in the profile's own unit. The index enters the slave's count, and is a number as it is there.
 #[derive(Clone, Copy)]
 pub struct Taken {
     pub pointer: u16,
@@ -54,10 +55,10 @@ pub fn check_arrival(profile: u8, p: &[u8], tick: u32) -> Result<(), Refusal>
 fn carries(profile: u8, p: &[u8]) -> bool
     ensures { result ≡ carries profile p.now }
 {
-    profile == 0 && notice::packet_identifier(p) == wire::MIP_PID
+    profile == Steps::PROFILE && notice::packet_identifier(p) == wire::MIP_PID
 }
 
-// The next mark's index is 0 to 19, or unknown.
+// The next mark's index is 0 to 19, or unknown, in a notice of either profile; a slave of profile 0 has none.
 fn index_allowed(index: u8) -> bool
     ensures { result ≡ (eqb index 255 || ltb index 20) }
 {

@@ -33,14 +33,15 @@ pub struct Begun {
     pub filled: usize,
 }
 
-// What a piece of a capture leaves in its buffers: how many bytes of lines were written, and how many bytes are held at the input's front.
+// What a piece of a capture leaves in its buffers: how many bytes of lines were written, and how many bytes are held at the input's front. Lengths and not
+// slices: the caller reads more into the one and writes out the other, and both are its own.
 #[derive(Clone, Copy)]
 pub struct Taken {
     pub filled: usize,
     pub held: usize,
 }
 
-// The settings at the front of a capture; bytes that are missing read as 0.
+// The settings at the front of a capture; bytes that are missing read as 0. A saved block has the same four at places of its own.
 fn board_in(head: &[u8]) -> Board
     ensures { result ≡ board_in head.now }
 {
@@ -52,7 +53,7 @@ fn board_in(head: &[u8]) -> Board
     }
 }
 
-// The start that the settings ask for. 15 where they are short.
+// The start that the settings ask for. 15 where they are short, as of a board outside the limits.
 #[tactic(auto, using(crate::proofs::Capture::begun_short, crate::proofs::Capture::begun_long))]
 fn begun_by(head: &[u8]) -> Shifted
     ensures { shifted_of result ≡ begun_by head.now }
@@ -103,6 +104,7 @@ impl Log {
         ensures room { line_room * result ≤ room }
         ensures counted { self.now.number + result ≤ most_records }
     {
+        // `as` is proved to lose nothing
         let counted = (u64::MAX - self.number) as usize;
         (bytes / RECORD_LENGTH).min((room / text::LINE_ROOM).min(counted))
     }

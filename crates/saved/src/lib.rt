@@ -19,7 +19,7 @@ const TRAILER_LENGTH: usize = 8;
 
 const BLOCK_LENGTH: usize = BODY_LENGTH + TRAILER_LENGTH;
 
-// Puts a slave's body over the first bytes.
+// Puts a slave's body over the first bytes. The places are document 01's.
 #[tactic(auto, using(crate::proofs::Body::cast_16, crate::proofs::Body::cast_32))]
 fn put_body(out: &mut [u8], s: Slave)
     ensures { out.new ≡ put_all out.old (body_fields s) }
@@ -52,6 +52,7 @@ pub fn save(s: Slave, out: &mut [u8]) -> Result<(), Refusal>
     }
     put_body(out, s);
     wire::put(out, BODY_LENGTH, &s.board.site.to_be_bytes());
+    // `as` is proved to lose nothing
     wire::put(out, BODY_LENGTH + 2, &(BODY_LENGTH as u16).to_be_bytes());
     check_value::seal(out, BLOCK_LENGTH - 4);
     Ok(())
@@ -93,7 +94,7 @@ fn site_and_body(block: &[u8]) -> Option<(u16, &[u8])>
     ensures { MatchOption result (shaped block.now ≡ false) (λ p. (shaped block.now ≡ true) × (p.0 ≡ trailer_site block.now) × (p.1.now ≡ from_body block.now)) }
 {
     let (front, trailer) = block.split_last_chunk::<TRAILER_LENGTH>()?;
-    let distance = wire::number16_at(trailer, 2) as usize;
+    let distance = usize::from(wire::number16_at(trailer, 2));
     let start = front.len().checked_sub(distance)?;
     let rest = &block[start..];
     // a distance below BODY_LENGTH, asked of the bytes: the compiler then knows that each part of the body lies within them

@@ -4,7 +4,7 @@ ghost use Rattle.state.specs.Sound.{sound};
 ghost use Rattle.slave.specs.Gap.{to_mark, gapped};
 
 use crate::steps;
-use state::Slave;
+use state::{LOCKED, Slave};
 
 // How many packets pass before the next mark.
 fn to_mark(n: u32, next: u32) -> u32
@@ -20,9 +20,10 @@ pub(crate) fn gapped(s: Slave, k: u16) -> Slave
     requires { sound s ≡ true }
     ensures { result ≡ gapped s k }
 {
-    if s.count.phase != 2 {
+    if s.count.phase != LOCKED {
         return s;
     }
+    // `as` is proved to lose nothing; the answers below speak of the numbers that it leaves as they are
     let n = s.board.n as u32;
     let next = s.count.next as u32;
     let missing = k as u32;

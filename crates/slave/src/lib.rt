@@ -13,8 +13,8 @@ ghost use Rattle.slave.specs.Ways.{way_of, left_by};
 use addressing::Settings;
 use judging::Numbers;
 use ready::Ready;
-use state::{Board, Count, Slave, Waiting};
-use times::{Periods, Steps, Times};
+use state::{Board, Count, LOCKED, Slave, Waiting};
+use times::{Periods, Steps, Times, Unit};
 use wire::Refusal;
 
 // The notice's part of a reply.
@@ -113,7 +113,7 @@ mod ready;
 mod release;
 mod steps;
 
-// Starts a slave. 15 outside the limits, and the cold slave.
+// Starts a slave. 15 outside the limits, and the cold slave. A gap, below, has its own test and its own slave.
 #[tactic(auto, unfolding(crate::specs::Calls::start_of))]
 pub fn start(b: Board) -> Shifted
     ensures { shifted_of result ≡ start_of b }
@@ -145,7 +145,7 @@ fn arrived(r: Ready<'_>, p: &[u8]) -> Way
 {
     let count = r.slave.count;
     match judging::judge_arrived(r.slave.board, r.slave.settings, p) {
-        Ok(None) if count.phase != 2 => Way::Hunts,
+        Ok(None) if count.phase != LOCKED => Way::Hunts,
         Ok(None) if count.next == 0 => Way::Marked(r.pass_mark()),
         Ok(None) => Way::Short(r.pass_on()),
         Ok(Some(t)) => Way::Moved(r.take(t)),
@@ -181,7 +181,7 @@ pub fn numbers_way(s: &Slave, p: &[u8], tick: u32, x: Numbers) -> Result<Way, Re
     ensures { way_of s.now result ≡ numbers_of s.now p.now tick x }
 {
     let r = Ready::new(s, p, tick)?;
-    if s.board.profile == 0 {
+    if s.board.profile == Steps::PROFILE {
         return Err(Refusal::OtherProfile);
     }
     Ok(given(r, p, x))
@@ -218,7 +218,7 @@ fn apply<A: Answer>(s: &mut Slave, way: Result<Way, Refusal>) -> A
     }
 }
 
-// A packet with its arrival tick.
+// A packet with its arrival tick. Packets and numbers notices are two calls: what one is given the other has not.
 #[inline(always)]
 pub fn packet<A: Answer>(s: &mut Slave, p: &[u8], tick: u32) -> A
     ensures { Leaves A.says s.new result (packet_of s.old p.now tick) }

@@ -9,7 +9,7 @@ ghost use Rattle.slave.specs.Step.{release_at};
 
 use crate::MarkPart;
 use crate::ready::Ready;
-use times::{Times, Unit};
+use times::{Periods, Times, Unit};
 
 // A mark of STS, MD and OD that came at a tick to a site with TAD, in a second of u units.
 #[derive(Clone, Copy)]
@@ -44,7 +44,7 @@ impl Arrival {
         wrapped(self.u, self.sts + self.md)
     }
 
-    // The emission time.
+    // The emission time. `as` here and below is proved to lose nothing; of i64::from the sum's proof does not close (tried).
     #[tactic(auto, unfolding(times::specs::Release::delay_fits, times::specs::Whole::within))]
     fn emission(self) -> u32
         ensures { result ≡ emission self.u self.sts self.md self.od }
@@ -53,7 +53,7 @@ impl Arrival {
         wrapped(self.u, self.sts + sum)
     }
 
-    // The modulation time.
+    // The modulation time. It and the link delay are each one line of document 01, though both take one time from another within the second.
     #[tactic(auto, unfolding(times::specs::Release::modulation))]
     fn modulation(self) -> u32
         ensures { result ≡ modulation self.u (emission self.u self.sts self.md self.od) self.tad }
@@ -108,12 +108,12 @@ impl Arrival {
     }
 }
 
-// U of a profile.
+// U of a profile, which is a number of the slave's.
 #[tactic(auto, unfolding(state::specs::Profile::second))]
 fn second_of(profile: u8) -> u32
     ensures { result ≡ second profile }
 {
-    if profile == 1 {
+    if profile == Periods::PROFILE {
         times::A110_SECOND
     } else {
         times::DVB_SECOND
@@ -145,7 +145,7 @@ impl Ready<'_> {
         ensures { mark_of result ≡ release_at self.entry.slave.now self.entry.tick }
     {
         let arrival = self.arrival();
-        if self.slave.board.profile == 1 {
+        if self.slave.board.profile == Periods::PROFILE {
             MarkPart::A110(arrival.due())
         } else {
             MarkPart::Dvb(arrival.due())

@@ -9,10 +9,10 @@ ghost use Rattle.slave.specs.Ways.{short_of, marked_of, moved_of};
 use crate::ready::Ready;
 use crate::{Counted, MarkPart, Marked, Moved, NoticePart, Short};
 use judging::Taken;
-use state::{Count, Slave, UNKNOWN_INDEX, Waiting};
+use state::{Count, LOCKED, PENDING, Slave, UNKNOWN_INDEX, Waiting};
 use wire::Refusal;
 
-// A known index after some marks.
+// A known index after some marks. Here and below the index is the count's number, and 255 its own word for none.
 fn raised(index: u8, marks: u32) -> u8
     requires { marks ≤ 65536 }
     ensures { result ≡ raised index marks }
@@ -20,6 +20,7 @@ fn raised(index: u8, marks: u32) -> u8
     if index == UNKNOWN_INDEX {
         return UNKNOWN_INDEX;
     }
+    // proved to lose nothing
     ((u32::from(index) + marks) % 20) as u8
 }
 
@@ -57,6 +58,7 @@ fn place_of(index: u8, label: u16) -> Option<u16>
     if index == UNKNOWN_INDEX {
         return None;
     }
+    // `as` is proved to lose nothing
     let mark = (u16::from(index) + 19) % 20;
     Some(cadence::mobile_place(mark as u8, label))
 }
@@ -65,7 +67,7 @@ fn place_of(index: u8, label: u16) -> Option<u16>
 fn on_mark(c: Count) -> bool
     ensures { result ≡ on_mark c }
 {
-    c.phase == 2 && c.next == 0
+    c.phase == LOCKED && c.next == 0
 }
 
 // The report on a counted packet of which no notice is taken.
@@ -108,7 +110,7 @@ fn kept_at(s: Slave) -> Waiting
 fn agrees(c: Count, label: u16) -> bool
     ensures { result ≡ agrees c label }
 {
-    c.phase == 2 && label == c.next
+    c.phase == LOCKED && label == c.next
 }
 
 // The mark on a packet whose notice is taken: on agreement the counted one, else label 0 is untimed.
@@ -166,7 +168,7 @@ fn turned(before: u8, index: u8) -> bool
 fn notice_taken(c: Count, label: u16) -> NoticePart
     ensures { notice_of result ≡ notice_taken c label }
 {
-    if c.phase == 2 && label != c.next {
+    if c.phase == LOCKED && label != c.next {
         return NoticePart::Slip;
     }
     NoticePart::Taken
@@ -182,7 +184,7 @@ impl Ready<'_> {
         if !on_mark(s.count) {
             return MarkPart::Unmarked;
         }
-        if s.waiting.pending != 1 {
+        if s.waiting.pending != PENDING {
             return MarkPart::Untimed;
         }
         self.release()
@@ -220,14 +222,14 @@ impl Ready<'_> {
         }
     }
 
-    // A packet whose notice a number of C ignores: it counts.
+    // A packet whose notice a number of C ignores: it counts. All three parts are named, though a hunting slave's stay: a way says what stands afterwards.
     #[tactic(auto, unfolding(state::specs::Sound::sound, crate::specs::Step::mark_at, crate::specs::Step::counted))]
     pub(crate) fn ignore(self, why: Refusal) -> Moved
         ensures { moved_of self.entry.slave.now result ≡ counted self.entry.slave.now (refusal_number why) self.entry.tick }
     {
         let s = self.slave;
         let notice = NoticePart::Ignored(why);
-        if s.count.phase != 2 {
+        if s.count.phase != LOCKED {
             return Moved {
                 settings: s.settings,
                 count: s.count,
@@ -259,12 +261,12 @@ impl Ready<'_> {
         Moved {
             settings: t.settings,
             count: Count {
-                phase: 2,
+                phase: LOCKED,
                 next: next_label(n, label),
                 index,
             },
             waiting: Waiting {
-                pending: 1,
+                pending: PENDING,
                 sts: t.sts,
                 md: t.md,
             },

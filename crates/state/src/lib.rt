@@ -21,7 +21,14 @@ pub struct Board {
     pub tad: u32,
 }
 
-// The index of a mark that is not known.
+// The numbers of a slave's phase and of a waiting notice, and the index of a mark that is not known. They are bytes that C lends: no enum and no Option
+// can stand for them.
+pub const HUNTING: u8 = 1;
+
+pub const LOCKED: u8 = 2;
+
+pub const PENDING: u8 = 1;
+
 pub const UNKNOWN_INDEX: u8 = 255;
 
 // Where the slave stands in the cadence: its phase, 1 where it hunts and 2 where it is locked, the next packet's label and the next mark's index.
@@ -71,7 +78,7 @@ fn uncounted(phase: u8) -> Count
     }
 }
 
-// The cold slave.
+// The cold slave. It has no board, and 0 is its phase's number alone.
 pub fn cold_slave() -> Slave
     ensures { result ≡ cold }
 {
@@ -90,17 +97,18 @@ pub fn hunting_slave(b: Board) -> Slave
     Slave {
         board: b,
         settings: addressing::no_settings(),
-        count: uncounted(1),
+        count: uncounted(HUNTING),
         waiting: nothing_waiting(),
     }
 }
 
-// A tick, an STS, an MD or a TAD is within the profile's second.
+// A tick, an STS, an MD or a TAD is within the profile's second. Here and below the profile is a number of the slave's, known when it runs, which chooses
+// the unit; a number that is no profile's counts as 0, as in the definitions.
 #[tactic(auto, unfolding(crate::specs::Profile::second))]
 pub fn in_second(profile: u8, t: u32) -> bool
     ensures { result ≡ in_second (second profile) t }
 {
-    if profile == 1 {
+    if profile == Periods::PROFILE {
         times::in_second(Periods(t))
     } else {
         times::in_second(Steps(t))
@@ -112,7 +120,7 @@ pub fn in_second(profile: u8, t: u32) -> bool
 pub fn delay_kept(b: Board, md: u32, od: i16) -> bool
     ensures { result ≡ delay_kept b md od }
 {
-    if b.profile == 1 {
+    if b.profile == Periods::PROFILE {
         Periods(md).delay_fits(od, Periods(b.tad))
     } else {
         Steps(md).delay_fits(od, Steps(b.tad))
@@ -141,7 +149,7 @@ fn frequency_fits(z: i32) -> bool
 fn index_fits(profile: u8, index: u8) -> bool
     ensures { result ≡ index_fits profile index }
 {
-    index == UNKNOWN_INDEX || (profile == 1 && index < 20)
+    index == UNKNOWN_INDEX || (profile == Periods::PROFILE && index < 20)
 }
 
 // Nothing, or a pending notice that is in range and satisfies 13.
@@ -151,7 +159,7 @@ fn waiting_fits(s: &Slave) -> bool
 {
     let b = s.board;
     let w = s.waiting;
-    if w.pending == 1 {
+    if w.pending == PENDING {
         in_second(b.profile, w.sts)
             && in_second(b.profile, w.md)
             && delay_kept(b, w.md, s.settings.od)
@@ -178,8 +186,8 @@ pub fn parts_fit(s: &Slave) -> bool
     ensures { result ≡ parts_fit s.now }
 {
     match s.count.phase {
-        1 => *s == hunting_slave(s.board),
-        2 => locked_fits(s),
+        HUNTING => *s == hunting_slave(s.board),
+        LOCKED => locked_fits(s),
         _ => false,
     }
 }

@@ -41,7 +41,8 @@ pub const SITE_ROOM: usize = SITE_WORD.len() + MOST_DIGITS + CADENCE_WORD.len() 
 
 pub const END_ROOM: usize = END_WORD.len() + NUMBER_ROOM;
 
-// A lent buffer, and the byte that the next text begins at.
+// A lent buffer, and the byte that the next text begins at. Each method says that the page keeps its buffer (`same`), since a caller has lent it and reads
+// it afterwards, and the private ones ask for room: no fact of every page, for a page may be full.
 #[derive(Drop)]
 pub struct Page<'a> {
     pub out: &'a mut [u8],
@@ -160,7 +161,7 @@ impl Page<'_> {
         self.out.len().saturating_sub(self.at)
     }
 
-    // A refusal, with its number. Here and below nothing is put where there is too little room.
+    // A refusal, with its number. Here and below nothing is put where there is too little room: each line has a room of its own.
     pub fn refusal(&mut self, k: u8)
         ensures same { self.new.out.ghost_name ≡ self.old.out.ghost_name }
         ensures placed { Placed refusal_room self.old.out.now self.old.at (refusal_text k) self.new.out.now self.new.at }

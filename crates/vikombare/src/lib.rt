@@ -86,7 +86,7 @@ pub extern "C" fn vikombare_a110_start_by_value(n: u16, site: u16, tad: Periods)
     slave::start(board(n, site, tad)).into()
 }
 
-// The tick as a count of the slave's own clock, or none.
+// The tick as a count of the slave's own clock, or none: the largest number, which no second has, so that the slave refuses it (3).
 fn tick_on(profile: u8, tick: Tick) -> u32
     ensures { result ≡ tick_on profile tick }
 {

@@ -73,7 +73,7 @@ fn bytes_at<const N: usize>(b: &[u8], i: usize) -> [u8; N]
     array::from_fn(|k| byte_at(rest, k))
 }
 
-// The number that two bytes spell, the first of them byte i.
+// The number that two bytes spell, the first of them byte i. A name for each size: each answers in its own type, and the third has no type of its size.
 pub fn number16_at(b: &[u8], i: usize) -> u16
     ensures { result ≡ be16_at b.now i }
 {
@@ -95,7 +95,7 @@ pub fn number32_at(b: &[u8], i: usize) -> u32
     u32::from_be_bytes(bytes_at(b, i))
 }
 
-// The lowest byte of a number.
+// The lowest byte of a number. This, and the library's methods by the names of the definitions below, stay for their promise, whoever calls them.
 pub fn low_byte(w: u32) -> u8
     ensures { result ≡ byte0 w }
 {
@@ -123,7 +123,7 @@ pub fn signed_16(v: u16) -> i16
     u16::cast_signed(v)
 }
 
-// The signed number that 24 bits mean; -1 beyond them.
+// The signed number that 24 bits mean; -1 beyond them. `as` is proved to lose nothing.
 pub fn signed_24(v: u32) -> i32
     ensures { result ≡ signed24 v }
 {

@@ -11,7 +11,7 @@ pub returns-in-Ok-None : goal.returns-in-Ok-None
 unfolding step_of
 returns-in-Ok-None c =
     let r = c.args.r in
-    counts_unheard r.slave.now 0 r.tick c.if-count-ne2.true _ refl
+    counts_unheard r.slave.now 0 r.tick c.if-count-ne-LOCKED.true _ refl
     ∙ ap (λ (j : Judgement). step_of r.slave.now j r.tick) (ap (λ (o : Option Taken). judgement_of (Ok o)) (sym c.in-Ok-None.field-0-is) ∙ c.in-Ok-None.ensures)
 
 pub take-requires : goal.take-requires

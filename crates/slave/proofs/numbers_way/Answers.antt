@@ -26,12 +26,12 @@ returns-in_err-r c =
     let p = err_from_is_err_and c.from_residual.result c.from_residual.ensures.1 in
     rw (p.1, p.2) (call_refused _ _ _ _ _ c.in_err-r.ensures.refusal (refusal_positive _) ∙ numbers_is _ _ _ _)
 
-pub returns-then-s-eq0 : goal.returns-then-s-eq0
+pub returns-then-s-eq-PROFILE : goal.returns-then-s-eq-PROFILE
 unfolding step_of
-returns-then-s-eq0 c = stepped _ _ _ _ (sym c.in_ok-r.ensures.refusal) true (eq-eqb _ 0 c.if-s-eq0.true)
+returns-then-s-eq-PROFILE c = stepped _ _ _ _ (sym c.in_ok-r.ensures.refusal) true (eq-eqb _ 0 c.if-s-eq-PROFILE.true)
 
 pub returns : goal.returns
 returns c =
     let v = c.in_ok-r.ensures.value in
     ap (λ (x : Slave). way_of x (Ok c.given.result)) (sym v.0) ∙ (rw (v.0, v.1) at c.given.ensures)
-    ∙ stepped _ _ _ _ (sym c.in_ok-r.ensures.refusal) false (ne_eqb _ 0 c.if-s-eq0.false)
+    ∙ stepped _ _ _ _ (sym c.in_ok-r.ensures.refusal) false (ne_eqb _ 0 c.if-s-eq-PROFILE.false)

@@ -5,9 +5,9 @@ use Rattle.slave.specs.Answer.{due}
 use Rattle.slave.specs.Step.{release_at}
 use Rattle.slave.proofs.ready.Ready.release.Goals as goal
 
-pub returns-else-self-eq1 : goal.returns-else-self-eq1
+pub returns-else-self-eq-PROFILE : goal.returns-else-self-eq-PROFILE
 unfolding release_at
-returns-else-self-eq1 c =
+returns-else-self-eq-PROFILE c =
     let s = c.args.self.slave.now in
-    let zero : s.board.profile ≡ 0 = omega (arith, profile_small s.board (settings_kept_lem s c.args.self.is_sound), c.if-self-eq1.false) in
-    ap (due 0) (c.due-else-self-eq1.ensures ∙ c.arrival-arrival.ensures) ∙ rw zero
+    let zero : s.board.profile ≡ 0 = omega (arith, profile_small s.board (settings_kept_lem s c.args.self.is_sound), c.if-self-eq-PROFILE.false) in
+    ap (due 0) (c.due-else-self-eq-PROFILE.ensures ∙ c.arrival-arrival.ensures) ∙ rw zero
