@@ -32,7 +32,8 @@ fn addressed(site: u16, id: u16) -> bool
     id == 0 || id == site
 }
 
-// The settings after one function, which is its tag, its length and its body, where it applies. Each arm has the length, so that reads need no test of it.
+// The settings after one function, which is its tag, its length and its body, where it applies: an arm for each row of subclause 6.1, which has the length,
+// so that reads need no test of it.
 #[tactic(auto, unfolding(crate::specs::Functions::length_fits, crate::specs::Functions::set_by))]
 fn set_by(on: bool, function: &[u8], t: Settings) -> Result<Settings, Refusal>
     ensures value { reply_of result ≡ formed (length_fits (slice_index function.now 0) (length function.now))

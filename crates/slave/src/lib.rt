@@ -137,8 +137,8 @@ fn cold() -> Shifted
     }
 }
 
-// A packet that arrived right, on a sound slave. Packets and numbers notices have a function each, of one caller, so that the compiler keeps the
-// steps of either out of memory.
+// A packet that arrived right, on a sound slave: what was judged decides which step is gone, and each is one method. Packets and numbers notices have a
+// function each, of one caller, so that the compiler keeps the steps of either out of memory.
 #[tactic(auto, unfolding(crate::specs::Step::step_of, judging::specs::Judge::judge_arrived))]
 fn arrived(r: Ready<'_>, p: &[u8]) -> Way
     ensures { way_of r.entry.slave.now (Ok result) ≡ step_of r.entry.slave.now (judge_arrived r.entry.slave.now.board r.entry.slave.now.settings p.now) r.entry.tick }

@@ -1,4 +1,4 @@
-// What a call leaves to its steps: a sound slave, and an arrival tick of its second.
+// What a call leaves to its steps: a sound slave, and an arrival tick of its second. The calls themselves take what C lends: a slave, a packet and a tick.
 ghost use Rattle.std.specs.Prelude.{◌≡◌, true, IfOk};
 ghost use Rattle.wire.specs.Reply.{number_of, reply_of};
 ghost use Rattle.times.specs.Release.{in_second};

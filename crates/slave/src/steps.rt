@@ -106,7 +106,7 @@ fn kept_at(s: Slave) -> Waiting
     s.waiting
 }
 
-// Whether a locked slave counted this label.
+// Whether a locked slave counted this label. Here and below a count and a label are two things: the label is the notice's.
 fn agrees(c: Count, label: u16) -> bool
     ensures { result ≡ agrees c label }
 {
@@ -190,7 +190,8 @@ impl Ready<'_> {
         self.release()
     }
 
-    // A locked slave's packet without a notice, between the marks: the label moves on.
+    // A locked slave's packet without a notice, between the marks: the label moves on. That the slave is locked is asked for here and in three more: a type
+    // that says so would be made in one place and taken apart in each of the four.
     #[tactic(auto, unfolding(state::specs::Sound::sound, crate::specs::Step::mark_at, crate::specs::Step::counted))]
     pub(crate) fn pass_on(self) -> Short
         requires { (self.slave.now.count.phase ≡ 2) × (self.slave.now.count.next ≡ 0 → ⊥) }

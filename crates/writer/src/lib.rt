@@ -93,7 +93,7 @@ fn put_over(dst: &mut [u8], src: &[u8])
     }
 }
 
-// Writes a notice into the first 188 bytes of a lent buffer; a refusal leaves it as it was.
+// Writes a notice into the first 188 bytes of a lent buffer; a refusal leaves it as it was. The field is no part of the notice: C lends it beside.
 #[tactic(auto, unfolding(crate::specs::Writer::write_of))]
 pub fn write_notice(out: &mut [u8], n: Notice, field: &[u8]) -> Result<(), Refusal>
     ensures { output_of result out.new ≡ write_of out.old n field.now }
