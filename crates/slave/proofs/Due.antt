@@ -4,13 +4,12 @@ use mathlib.Core.Bool.{true}
 use Prim.Native.Nat.{ℕ}
 use native.Mathlib.Omega.{arith}
 use lib.Dec.{eqb}
-use Rattle.wire.proofs.Tests.{pick, must_be}
+use Rattle.std.proofs.lemmas.Bool.Decides.{nat_tests}
 use Rattle.times.specs.Release.{Due, due_of}
 use Rattle.state.specs.Profile.{second}
 use Rattle.state.specs.declared.Slave.{Slave}
-use Rattle.slave.specs.Answer.{Mark, unmarked, untimed, due}
-use Rattle.slave.specs.Step.{release_at, on_mark, mark_at, agrees, mark_taken}
-use Rattle.slave.proofs.Stepping.{marked}
+use Rattle.slave.specs.Answer.{unmarked, untimed, due}
+use Rattle.slave.specs.Step.{release_at, mark_at, mark_taken}
 
 pub record OwnDue (s : Slave) (tick profile : ℕ) (d : Due) : Type 0 where
   pub label : s.count.next ≡ 0
@@ -30,13 +29,14 @@ module _ (profile : ℕ) (d : Due) where
     pub own_due : mark_at s tick ≡ due profile d → OwnDue s tick profile d
     unfolding mark_at release_at
     own_due e =
-        let f = must_be (on_mark s.count) _ unmarked (due profile d) unmarked_apart e in
-        let h = must_be (eqb s.waiting.pending 1) _ untimed (due profile d) untimed_apart f.1 in
-        record { label = (marked s.count f.0).1; pending = h.0; unit = cc h.1; due_is = cc h.1 }
+        let u = unmarked_apart in
+        let v = untimed_apart in
+        record { label = grind (arith, nat_tests); pending = grind (arith, nat_tests); unit = grind (arith, nat_tests); due_is = grind (arith, nat_tests) }
 
     -- of a packet whose notice is taken: the slave had counted the same
     pub taken_due : (label : ℕ) → mark_taken s label tick ≡ due profile d → OwnDue s tick profile d
     unfolding mark_taken
     taken_due label e =
-        let other = pick (λ (m : Mark). m ≡ due profile d → ⊥) (eqb label 0) _ _ untimed_apart unmarked_apart in
-        own_due (must_be (agrees s.count label) _ _ (due profile d) other e).1
+        let u = unmarked_apart in
+        let v = untimed_apart in
+        own_due (grind (arith, nat_tests))

@@ -1,6 +1,6 @@
 -- What every call on a sound slave keeps: the start's settings and soundness, so that 15 never arises on a slave that a call left.
-use mathlib.Core.Path.{◌≡◌, refl, sym, ap, ◌∙◌}
-use mathlib.Core.Bool.{Bool, true, false, cond, ◌||◌}
+use mathlib.Core.Path.{◌≡◌, refl, ap, ◌∙◌}
+use mathlib.Core.Bool.{true}
 use mathlib.Core.List.{List}
 use Prim.Native.Nat.{ℕ, ◌+◌, ◌%◌}
 use native.Mathlib.Nat.{mod-lt}
@@ -8,8 +8,9 @@ use native.Mathlib.Omega.{arith}
 use lib.Dec.{eqb, ltb, leb}
 use lib.IntN.{ℤ}
 use borrow.Author.Tests.{eqb-true, lt-ltb}
+use Rattle.std.proofs.lemmas.Bool.Decides.{nat_tests}
 use Rattle.wire.specs.Reply.{given}
-use Rattle.wire.proofs.Tests.{both, join, either, pick, split, yes}
+use Rattle.wire.proofs.Tests.{join, pick, split, yes}
 use Rattle.cadence.specs.Label.{label_of}
 use Rattle.cadence.specs.MobileFrame.{frame_marks}
 use Rattle.state.specs.Slave.{unknown, nothing}
@@ -34,27 +35,18 @@ use Rattle.slave.specs.Calls.{packet_of, numbers_of, gap_of}
 pub step_board : (s : Slave) (j : Judgement) (tick : ℕ) → (step_of s j tick).slave.board ≡ s.board
 unfolding step_of counted passed unheard took
 step_board s (Refuse k) tick = refl
-step_board s (Counts k) tick = pick (λ (r : Result Report). r.slave.board ≡ s.board) (eqb s.count.phase 2) _ _ refl refl
+step_board s (Counts k) tick = grind (arith, nat_tests)
 step_board s (Takes t) tick = refl
 
 pub gap_board : (s : Slave) (k : ℕ) → (gapped s k).board ≡ s.board
 unfolding gapped
-gap_board s k = pick (λ (x : Slave). x.board ≡ s.board) (eqb s.count.phase 2) _ _ refl refl
+gap_board s k = grind (arith, nat_tests)
 
 -- ---- the index and the pending notice over a step
 
 raised_fits : (profile index marks : ℕ) → index_fits profile index ≡ true → index_fits profile (raised index marks) ≡ true
 unfolding index_fits
-raised_fits profile index marks e = go (eqb index unknown) refl
-  where
-    no_or : (a b : Bool) → a ≡ false → (a || b) ≡ b
-    no_or a b e = rw e
-
-    go : (b : Bool) → eqb index unknown ≡ b → index_fits profile (cond b unknown ((index + marks) % frame_marks)) ≡ true
-    go true q = refl
-    go false q =
-        let l = both (eqb profile 1) _ (sym (no_or (eqb index unknown) _ q) ∙ e) in
-        either (eqb ((index + marks) % frame_marks) unknown) _ (join l.0 (lt-ltb _ frame_marks (mod-lt (index + marks) (omega arith))))
+raised_fits profile index marks e = let m = mod-lt (index + marks) {m = frame_marks} (omega arith) in grind (arith, nat_tests)
 
 nothing_fits : (b : Board) (od : ℤ) → waiting_fits b od nothing ≡ true
 unfolding waiting_fits is_nothing
@@ -73,7 +65,7 @@ module _ (s : Slave) (ok : sound s ≡ true) where
   WaitingFits w = waiting_fits s.board s.settings.od w ≡ true
 
   phase_at : (count_at s.count).phase ≡ s.count.phase
-  phase_at = pick (λ (c : Count). c.phase ≡ s.count.phase) (eqb s.count.next 0) _ _ refl refl
+  phase_at = grind (arith, nat_tests)
 
   index_at : IndexFits (count_at s.count).index
   index_at = pick (λ (c : Count). IndexFits c.index) (eqb s.count.next 0) _ _ (raised_fits _ s.count.index 1 (fitting s ok).index) (fitting s ok).index

@@ -1,5 +1,5 @@
 -- A numbers notice that 15 and 1 to 3 do not refuse is 20's in profile 0, else a judged step; a refusal is the call's.
-use Rattle.std.proofs.Common.{◌≡◌, ◌∙◌, sym, ap, Ok, Bool, true, false, ℕ, List}
+use Rattle.std.proofs.Common.{◌≡◌, ◌∙◌, sym, ap, Bool, true, false, ℕ, List}
 use Rattle.std.specs.Prelude.{cond, eqb}
 use Rattle.std.proofs.lemmas.Result.{err_from_is_err_and}
 use borrow.Author.Tests.{eq-eqb, ne_eqb}
@@ -10,7 +10,6 @@ use Rattle.judging.specs.Judgement.{Refuse}
 use Rattle.judging.specs.declared.Numbers.{Numbers}
 use Rattle.slave.specs.Step.{step_of}
 use Rattle.slave.specs.Calls.{ready_refusal, numbers_of}
-use Rattle.slave.specs.Ways.{way_of}
 use Rattle.slave.proofs.Calling.{numbers_is, call_refused, call_steps}
 use Rattle.slave.proofs.numbers_way.Goals as goal
 
@@ -32,6 +31,6 @@ returns-then-s-eq-PROFILE c = stepped _ _ _ _ (sym c.in_ok-r.ensures.refusal) tr
 
 pub returns : goal.returns
 returns c =
-    let v = c.in_ok-r.ensures.value in
-    ap (λ (x : Slave). way_of x (Ok c.given.result)) (sym v.0) ∙ (rw (v.0, v.1) at c.given.ensures)
-    ∙ stepped _ _ _ _ (sym c.in_ok-r.ensures.refusal) false (ne_eqb _ 0 c.if-s-eq-PROFILE.false)
+    let a = c.args in
+    let e = stepped a.s.now a.p.now a.tick a.x (sym c.in_ok-r.ensures.refusal) false (ne_eqb _ 0 c.if-s-eq-PROFILE.false) in
+    cc (e, c.given.ensures, c.in_ok-r.ensures.value.0, c.in_ok-r.ensures.value.1)

@@ -1,16 +1,16 @@
 -- A packet that 15 and 1 to 3 do not refuse is a judged step; a refusal is the call's.
-use Rattle.std.proofs.Common.{◌∙◌, sym, ap, Ok}
+use Rattle.std.proofs.Common.{◌∙◌, sym}
 use Rattle.std.proofs.lemmas.Result.{err_from_is_err_and}
 use Rattle.wire.proofs.Refusals.{refusal_positive}
-use Rattle.state.specs.declared.Slave.{Slave}
-use Rattle.slave.specs.Ways.{way_of}
+use Rattle.judging.specs.Judge.{judge_arrived}
 use Rattle.slave.proofs.Calling.{packet_is, call_refused, call_steps}
 use Rattle.slave.proofs.way_of.Goals as goal
 
 pub returns : goal.returns
 returns c =
-    let v = c.in_ok-r.ensures.value in
-    ap (λ (x : Slave). way_of x (Ok c.arrived.result)) (sym v.0) ∙ (rw (v.0, v.1) at c.arrived.ensures) ∙ call_steps _ _ _ _ (sym c.in_ok-r.ensures.refusal) ∙ packet_is _ _ _
+    let a = c.args in
+    let e = call_steps a.s.now a.p.now a.tick (judge_arrived a.s.now.board a.s.now.settings a.p.now) (sym c.in_ok-r.ensures.refusal) ∙ packet_is a.s.now a.p.now a.tick in
+    cc (e, c.arrived.ensures, c.in_ok-r.ensures.value.0, c.in_ok-r.ensures.value.1)
 
 pub returns-in_err-r : goal.returns-in_err-r
 returns-in_err-r c =
