@@ -1,4 +1,5 @@
-// The log of a capture: reads standard input, and writes a line for each record to standard output.
+// The log of a capture: reads standard input, and writes a line for each record to standard output. Its buffers are fixed, with what is held in them
+// counted beside them: memory does not grow with the capture.
 #![tactic(auto)]
 
 ghost use Rattle.std.specs.Prelude.{◌≤◌, length, IfOk};

@@ -33,7 +33,7 @@ pub struct Taken {
     pub md: u32,
 }
 
-// 1, 2 and 3, of any packet with its arrival tick.
+// 1, 2 and 3, of any packet with its arrival tick. The profile is the slave's number, which C lends; the reader has 1 and 2 too, in its own order.
 #[tactic(auto, unfolding(crate::specs::Judge::arrival_refusal))]
 pub fn check_arrival(profile: u8, p: &[u8], tick: u32) -> Result<(), Refusal>
     ensures { reply_of result ≡ reply (arrival_refusal profile p.now tick) tt }

@@ -1,4 +1,5 @@
-// The log's lines: from the bytes of a capture to the bytes that the log program prints (document 01, the paragraph on the log program).
+// The log's lines: from the bytes of a capture to the bytes that the log program prints (document 01, the paragraph on the log program). Memory is fixed and
+// lent: a call fills the front of a buffer and answers how many bytes.
 #![tactic(auto)]
 
 ghost use Rattle.std.specs.Prelude.{◌≡◌, ◌+◌, ◌*◌, ◌≤◌, length, take, drop};
@@ -41,7 +42,8 @@ pub struct Taken {
     pub held: usize,
 }
 
-// The settings at the front of a capture; bytes that are missing read as 0. A saved block has the same four at places of its own.
+// The settings at the front of a capture; bytes that are missing read as 0. A saved block's body has the same four, by a
+// definition of its own, and each reader follows its own.
 fn board_in(head: &[u8]) -> Board
     ensures { result ≡ board_in head.now }
 {

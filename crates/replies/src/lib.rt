@@ -98,7 +98,7 @@ impl From<MarkPart> for Mark {
     }
 }
 
-// The notice's part as C has it: its kind, and the number that ignores it.
+// The notice's part as C has it: its kind, and the number that ignores it. No From: a byte says neither which of the two it is.
 fn notice_kind(n: NoticePart) -> u8
     ensures { result ≡ notice_kind (notice_of n) }
 {
@@ -160,7 +160,7 @@ impl Answer for PacketReply {
     }
 }
 
-// The number of an outcome, 0 where nothing refuses.
+// The number of an outcome, 0 where nothing refuses. No From: neither type is of this crate.
 pub fn outcome_number(o: Result<(), Refusal>) -> u8
     ensures { result ≡ number_of (reply_of o) }
 {

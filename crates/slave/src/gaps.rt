@@ -1,4 +1,4 @@
-// A gap's steps.
+// A gap's steps. The phase is a number of state's records, which C lends.
 ghost use Rattle.std.specs.Prelude.{◌≡◌, true, ◌<◌};
 ghost use Rattle.state.specs.Sound.{sound};
 ghost use Rattle.slave.specs.Gap.{to_mark, gapped};

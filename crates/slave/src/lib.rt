@@ -1,4 +1,5 @@
-// The slave: it follows the cadence, takes notices and places marks in time (document 01, "Steps of a slave").
+// The slave: it follows the cadence, takes notices and places marks in time (document 01, "Steps of a slave"). Its phase and its profile are numbers of
+// state's records, which C lends.
 #![tactic(auto)]
 
 ghost use Rattle.std.specs.Prelude.{◌≡◌, Ok};
@@ -166,7 +167,8 @@ fn given(r: Ready<'_>, p: &[u8], x: Numbers) -> Way
     )
 }
 
-// What a packet with its arrival tick does. Each thing is judged once, in document 01's order: 15, then 1 to 3, then 4 and 6 to 13.
+// What a packet with its arrival tick does. Each thing is judged once, in document 01's order: 15, then 1 to 3, then 4 and 6 to 13. Here and below packets
+// and numbers notices are two calls: what one is given the other has not.
 #[tactic(auto, unfolding(crate::specs::Calls::packet_of))]
 pub fn way_of(s: &Slave, p: &[u8], tick: u32) -> Result<Way, Refusal>
     ensures { way_of s.now result ≡ packet_of s.now p.now tick }
@@ -218,7 +220,7 @@ fn apply<A: Answer>(s: &mut Slave, way: Result<Way, Refusal>) -> A
     }
 }
 
-// A packet with its arrival tick. Packets and numbers notices are two calls: what one is given the other has not.
+// A packet with its arrival tick.
 #[inline(always)]
 pub fn packet<A: Answer>(s: &mut Slave, p: &[u8], tick: u32) -> A
     ensures { Leaves A.says s.new result (packet_of s.old p.now tick) }

@@ -53,7 +53,8 @@ impl Arrival {
         wrapped(self.u, self.sts + sum)
     }
 
-    // The modulation time. It and the link delay are each one line of document 01, though both take one time from another within the second.
+    // The modulation time. It and the link delay both take one time from another within the second, but document 01 defines the one by cases and the other
+    // by a remainder, and each body follows its own.
     #[tactic(auto, unfolding(times::specs::Release::modulation))]
     fn modulation(self) -> u32
         ensures { result ≡ modulation self.u (emission self.u self.sts self.md self.od) self.tad }

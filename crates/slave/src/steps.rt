@@ -1,4 +1,5 @@
-// The steps of a sound slave on a packet that was judged.
+// The steps of a sound slave on a packet that was judged. Phase, pending and index are the numbers of state's records, which C lends. Plain packets have
+// steps of their own: a step for all kinds takes a tenth longer for each.
 ghost use Rattle.std.specs.Prelude.{◌≡◌, cond, ◌<◌, ◌≤◌, eqb};
 ghost use Rattle.wire.specs.Reply.{refusal_number};
 ghost use Rattle.cadence.specs.Label.{next_label};
@@ -84,7 +85,7 @@ fn counted(label: u16, index: u8, notice: NoticePart, mark: MarkPart) -> Counted
 }
 
 // The report of a hunting slave: it has no label, no mark and no place.
-pub fn unheard(notice: NoticePart) -> Counted
+pub(crate) fn unheard(notice: NoticePart) -> Counted
     ensures { report_of result ≡ unheard_report (notice_of notice) }
 {
     Counted {

@@ -3,6 +3,7 @@
 #![tactic(auto)]
 
 ghost use Rattle.std.specs.Prelude.{◌≡◌};
+ghost use Rattle.addressing.specs.Functions.{no_settings};
 ghost use Rattle.times.specs.Release.{in_second};
 ghost use Rattle.state.specs.Profile.{second, delay_kept, settings_kept};
 ghost use Rattle.state.specs.Slave.{nothing, uncounted, cold, hunting};
@@ -78,28 +79,30 @@ fn uncounted(phase: u8) -> Count
     }
 }
 
-// The cold slave. It has no board, and 0 is its phase's number alone.
+// A slave of this board and phase that was told nothing.
+fn untold(board: Board, phase: u8) -> Slave
+    ensures { result ≡ record { board = board; settings = no_settings; count = uncounted phase; waiting = nothing } }
+{
+    Slave {
+        board,
+        settings: addressing::no_settings(),
+        count: uncounted(phase),
+        waiting: nothing_waiting(),
+    }
+}
+
+// The cold slave: it has no board, and its phase is 0.
 pub fn cold_slave() -> Slave
     ensures { result ≡ cold }
 {
-    Slave {
-        board: Board::default(),
-        settings: addressing::no_settings(),
-        count: uncounted(0),
-        waiting: nothing_waiting(),
-    }
+    untold(Board::default(), 0)
 }
 
 // A hunting slave.
 pub fn hunting_slave(b: Board) -> Slave
     ensures { result ≡ hunting b }
 {
-    Slave {
-        board: b,
-        settings: addressing::no_settings(),
-        count: uncounted(HUNTING),
-        waiting: nothing_waiting(),
-    }
+    untold(b, HUNTING)
 }
 
 // A tick, an STS, an MD or a TAD is within the profile's second. Here and below the profile is a number of the slave's, known when it runs, which chooses

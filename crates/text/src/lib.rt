@@ -145,7 +145,7 @@ impl Page<'_> {
         self.byte(b'\n');
     }
 
-    // A refusal's number at the end of a line.
+    // A refusal's number at the end of a line: a number, and not a Refusal, so that a caller may have any.
     fn refused(&mut self, k: u8)
         requires { self.old.at + refusal_room ≤ length self.old.out.now }
         ensures same { self.new.out.ghost_name ≡ self.old.out.ghost_name }

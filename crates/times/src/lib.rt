@@ -7,7 +7,7 @@ ghost use Rattle.wire.specs.Standards.{dvb_second, a110_second};
 ghost use Rattle.times.specs.Release.{in_second, delay_fits, delay_fits_a110};
 ghost use Rattle.times.specs.Answer.{number, steps, periods, times_in};
 
-// U, the units of a second: a constant for each unit, which its `Unit` gives too.
+// U, the units of a second, each of its own document; `Unit::SECOND` is one of them.
 pub const DVB_SECOND: u32 = 10_000_000;
 
 pub const A110_SECOND: u32 = 0x127_E892;

@@ -183,7 +183,7 @@ pub extern "C" fn vikombare_a110_resume_by_value(
     saved::resume(block, board(n, site, tad)).into()
 }
 
-// Reads a notice of profile 0.
+// Reads a notice of profile 0. No From: the length is the packet's and not the notice's.
 #[unsafe(no_mangle)]
 pub extern "C" fn vikombare_read(p: &[u8]) -> NoticeRead
     ensures { result ≡ flat_notice (read_of p.now) (length (addressing_field p.now)) }

@@ -50,7 +50,7 @@ pub enum Refusal {
 }
 
 impl Refusal {
-    // The table's number.
+    // The table's number. A method of the definition's name: a From would say u8 and not of what.
     pub fn number(self) -> u8
         ensures { result ≡ refusal_number self }
     {

@@ -84,6 +84,7 @@ fn head_of(n: Notice, a: u8) -> [u8; ADDRESSING_START]
 }
 
 // Puts all of src over dst. Byte by byte: copy_from_slice would ask the board for memmove, where the compiler does not know the length.
+// Not by zip: what a write through an adapter of iter_mut leaves is not told.
 fn put_over(dst: &mut [u8], src: &[u8])
     requires { length dst.old ≡ length src.now }
     ensures { dst.new ≡ src.now }
