@@ -1,5 +1,5 @@
 // A packet and a numbers notice by value: the slave goes in, and comes back with the reply, as the slave's answer or as plain numbers for C. Each has two
-// forms, since what C is given can have no type parameter: `Step` is C's, `Stepped` Rust's, and one generic form would ask for a conversion to `Step` besides.
+// forms, since what C is given can have no type parameter: `Step` is C's, `Left<Counted>` Rust's, and one generic form would ask for a conversion besides.
 #![tactic(auto)]
 
 ghost use Rattle.std.specs.Prelude.{◌≡◌};
@@ -9,31 +9,29 @@ ghost use Rattle.by_value.specs.Stepped.{stepped_of};
 
 use judging::Numbers;
 use replies::Step;
-use slave::Counted;
+use slave::{Counted, Left};
 use state::Slave;
-use wire::Refusal;
-
-// What a packet or a numbers notice leaves and replies.
-#[derive(Clone, Copy)]
-pub struct Stepped {
-    pub slave: Slave,
-    pub answer: Result<Counted, Refusal>,
-}
 
 // A packet with its arrival tick.
-pub fn packet(mut s: Slave, p: &[u8], tick: u32) -> Stepped
+pub fn packet(mut s: Slave, p: &[u8], tick: u32) -> Left<Counted>
     ensures { stepped_of result ≡ packet_of s p.now tick }
 {
     let answer = slave::packet(&mut s, p, tick);
-    Stepped { slave: s, answer }
+    Left {
+        slave: s,
+        reply: answer,
+    }
 }
 
 // A numbers notice with its packet and arrival tick.
-pub fn numbers_notice(mut s: Slave, p: &[u8], tick: u32, x: Numbers) -> Stepped
+pub fn numbers_notice(mut s: Slave, p: &[u8], tick: u32, x: Numbers) -> Left<Counted>
     ensures { stepped_of result ≡ numbers_of s p.now tick x }
 {
     let answer = slave::numbers_notice(&mut s, p, tick, x);
-    Stepped { slave: s, answer }
+    Left {
+        slave: s,
+        reply: answer,
+    }
 }
 
 // A packet, with the reply as plain numbers.

@@ -88,7 +88,7 @@ fn run(rt: &HostRuntime) -> Result<(), Failure> {
     let mut opening = [0; lines::OPENING_ROOM];
     let begun = lines::begin(&head[..n], &mut opening);
     write(rt, &opening[..begun.filled])?;
-    if begun.started.outcome.is_err() {
+    if begun.started.reply.is_err() {
         return Ok(());
     }
     let mut log = Log {

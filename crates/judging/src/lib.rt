@@ -50,7 +50,7 @@ pub fn check_arrival(profile: u8, p: &[u8], tick: u32) -> Result<(), Refusal>
     Ok(())
 }
 
-// Whether the packet carries a notice for a slave of this profile.
+// Whether the packet carries a notice for a slave of this profile, which is the slave's number, as above.
 #[tactic(auto, unfolding(crate::specs::Judge::carries))]
 fn carries(profile: u8, p: &[u8]) -> bool
     ensures { result ≡ carries profile p.now }

@@ -10,7 +10,7 @@ ghost use Rattle.text.specs.Rooms.{line_room};
 ghost use Rattle.lines.specs.Log.{record_length, board_in, begun_by, opened_by, opening_of};
 ghost use Rattle.lines.specs.Pieces.{most_records, handled_in, Handled, TakesPiece, ending_of, piece_by, held_by};
 
-use slave::Shifted;
+use slave::Left;
 use state::{Board, Slave};
 use text::Page;
 use wire::Refusal;
@@ -30,7 +30,7 @@ pub const ENDING_ROOM: usize = text::LINE_ROOM + text::END_ROOM;
 // What the settings at the front of a capture give, and how many bytes were written.
 #[derive(Clone, Copy)]
 pub struct Begun {
-    pub started: Shifted,
+    pub started: Left<()>,
     pub filled: usize,
 }
 
@@ -55,16 +55,13 @@ fn board_in(head: &[u8]) -> Board
     }
 }
 
-// The start that the settings ask for. 15 where they are short, as of a board outside the limits.
+// The start that the settings ask for. Short settings are no board: they start what zeros start, a cold slave (15).
 #[tactic(auto, using(crate::proofs::Capture::begun_short, crate::proofs::Capture::begun_long))]
-fn begun_by(head: &[u8]) -> Shifted
+fn begun_by(head: &[u8]) -> Left<()>
     ensures { shifted_of result ≡ begun_by head.now }
 {
     if head.len() < SETTINGS_LENGTH {
-        return Shifted {
-            slave: state::cold_slave(),
-            outcome: Err(Refusal::StartSettings),
-        };
+        return slave::start(Board::default());
     }
     slave::start(board_in(head))
 }
@@ -86,7 +83,7 @@ pub fn begin(head: &[u8], out: &mut [u8; OPENING_ROOM]) -> Begun
     ensures { (shifted_of result.started ≡ begun_by head.now) × Fronts (opening_of head.now) out.old out.new result.filled }
 {
     let started = begun_by(head);
-    let filled = put_opening(board_in(head), started.outcome, out);
+    let filled = put_opening(board_in(head), started.reply, out);
     Begun { started, filled }
 }
 

@@ -20,6 +20,8 @@ use replies::Step;
 use state::Slave;
 use times::{Periods, Steps, Unit};
 
+// C has no Result: the number that refuses, or 0, stands beside the value, and a call below puts either there arm by arm. A From for each of the two, which
+// have one caller, would say the same in more lines.
 #[repr(C)]
 #[derive(Clone, Copy, Default)]
 pub struct ProbeSettings {
@@ -30,7 +32,7 @@ pub struct ProbeSettings {
 }
 
 #[repr(C)]
-#[derive(Clone, Copy)]
+#[derive(Clone, Copy, Default)]
 pub struct ProbeLabel {
     pub number: u8,
     pub value: u16,
@@ -101,7 +103,7 @@ pub extern "C" fn probe_label(n: u16, pointer: u16) -> ProbeLabel
         Ok(value) => ProbeLabel { number: 0, value },
         Err(r) => ProbeLabel {
             number: r.number(),
-            value: 0,
+            ..ProbeLabel::default()
         },
     }
 }

@@ -5,7 +5,7 @@
 ghost use Rattle.std.specs.Prelude.{◌≡◌};
 ghost use Rattle.wire.specs.Reply.{refused, number_of, reply_of};
 ghost use Rattle.times.specs.Answer.{times_in};
-ghost use Rattle.slave.specs.Answer.{notice_of, mark_of, report_of};
+ghost use Rattle.slave.specs.Answer.{due, due_in, notice_of, mark_of, report_of};
 ghost use Rattle.replies.specs.Flat.{notice_kind, notice_number, flat_times, flat_mark, flat_report, flat_reply};
 
 use slave::{Answer, Counted, MarkPart, NoticePart};
@@ -69,6 +69,26 @@ impl<T: Unit> From<Times<T>> for MarkTimes {
     }
 }
 
+// A mark that is due, in either unit.
+impl<T: Unit> From<Option<Times<T>>> for Mark {
+    ghost from_gives = { λ t r. r ≡ flat_mark (due T.PROFILE (due_in T.count t)) };
+
+    fn from(t: Option<Times<T>>) -> Mark {
+        match t {
+            None => Mark {
+                kind: 2,
+                number: Refusal::Late.number(),
+                ..Mark::default()
+            },
+            Some(t) => Mark {
+                kind: T::PROFILE + 3,
+                times: t.into(),
+                ..Mark::default()
+            },
+        }
+    }
+}
+
 impl From<MarkPart> for Mark {
     ghost from_gives = { λ m r. r ≡ flat_mark (mark_of m) };
 
@@ -79,21 +99,8 @@ impl From<MarkPart> for Mark {
                 kind: 1,
                 ..Mark::default()
             },
-            MarkPart::Dvb(None) | MarkPart::A110(None) => Mark {
-                kind: 2,
-                number: Refusal::Late.number(),
-                ..Mark::default()
-            },
-            MarkPart::Dvb(Some(t)) => Mark {
-                kind: 3,
-                times: t.into(),
-                ..Mark::default()
-            },
-            MarkPart::A110(Some(t)) => Mark {
-                kind: 4,
-                times: t.into(),
-                ..Mark::default()
-            },
+            MarkPart::Dvb(t) => t.into(),
+            MarkPart::A110(t) => t.into(),
         }
     }
 }

@@ -100,15 +100,6 @@ module _ (d : List ℕ) where
       ∙ put_packed fs (k + w) (p ++ x) (length-append p x ∙ ap₂ ◌+◌ e (field_length f.0 f.1)) t.1 (omega arith)
       ∙ ap₂ ◌++◌ (append_assoc p x (written fs)) (ap (λ (n : ℕ). drop n d) more)
 
--- the bits of a signed number, as the library has them
-pub cast_16 : (z : ℤ) → cast_unsigned w16 z ≡ bits16 z
-cast_16 (pos v) = refl
-cast_16 (negsuc v) = omega arith
-
-pub cast_32 : (z : ℤ) → cast_unsigned w32 z ≡ bits32 z
-cast_32 (pos v) = refl
-cast_32 (negsuc v) = omega arith
-
 -- ---- reading
 
 abbrev same_field : Field → Field → Bool

@@ -8,7 +8,7 @@ ghost use Rattle.saved.specs.Layout.{body_fields, put_all, slave_in};
 ghost use Rattle.saved.specs.Block.{save_of, saved_output, trailer_site, shaped, from_body, held, block_fits, same_board, resume_of};
 
 use addressing::Settings;
-use slave::Shifted;
+use slave::Left;
 use state::{Board, Count, Slave, Waiting};
 use wire::Refusal;
 
@@ -20,23 +20,22 @@ const TRAILER_LENGTH: usize = 8;
 const BLOCK_LENGTH: usize = BODY_LENGTH + TRAILER_LENGTH;
 
 // Puts a slave's body over the first bytes. The places are document 01's.
-#[tactic(auto, using(crate::proofs::Body::cast_16, crate::proofs::Body::cast_32))]
 fn put_body(out: &mut [u8], s: Slave)
     ensures { out.new ≡ put_all out.old (body_fields s) }
 {
     wire::put(out, 0, &[s.count.phase]);
     wire::put(out, 1, &[s.board.profile]);
-    wire::put(out, 2, &s.board.n.to_be_bytes());
-    wire::put(out, 4, &s.board.site.to_be_bytes());
-    wire::put(out, 6, &s.board.tad.to_be_bytes());
-    wire::put(out, 10, &s.settings.od.cast_unsigned().to_be_bytes());
-    wire::put(out, 12, &s.settings.frequency.cast_unsigned().to_be_bytes());
-    wire::put(out, 16, &s.settings.power.to_be_bytes());
-    wire::put(out, 18, &s.count.next.to_be_bytes());
+    wire::put(out, 2, &wire::bytes_16(s.board.n));
+    wire::put(out, 4, &wire::bytes_16(s.board.site));
+    wire::put(out, 6, &wire::bytes_32(s.board.tad));
+    wire::put(out, 10, &wire::bytes_16(wire::bits_16(s.settings.od)));
+    wire::put(out, 12, &wire::bytes_32(wire::bits_32(s.settings.frequency)));
+    wire::put(out, 16, &wire::bytes_16(s.settings.power));
+    wire::put(out, 18, &wire::bytes_16(s.count.next));
     wire::put(out, 20, &[s.waiting.pending]);
     wire::put(out, 21, &[s.count.index]);
-    wire::put(out, 22, &s.waiting.sts.to_be_bytes());
-    wire::put(out, 26, &s.waiting.md.to_be_bytes());
+    wire::put(out, 22, &wire::bytes_32(s.waiting.sts));
+    wire::put(out, 26, &wire::bytes_32(s.waiting.md));
 }
 
 // Saves a slave into the first bytes of a lent buffer; a refusal leaves it as it was.
@@ -51,9 +50,9 @@ pub fn save(s: Slave, out: &mut [u8]) -> Result<(), Refusal>
         return Err(Refusal::OutputLength);
     }
     put_body(out, s);
-    wire::put(out, BODY_LENGTH, &s.board.site.to_be_bytes());
+    wire::put(out, BODY_LENGTH, &wire::bytes_16(s.board.site));
     // `as` is proved to lose nothing
-    wire::put(out, BODY_LENGTH + 2, &(BODY_LENGTH as u16).to_be_bytes());
+    wire::put(out, BODY_LENGTH + 2, &wire::bytes_16(BODY_LENGTH as u16));
     check_value::seal(out, BLOCK_LENGTH - 4);
     Ok(())
 }
@@ -71,8 +70,8 @@ fn slave_in(b: &[u8]) -> Slave
             tad: wire::number32_at(b, 6),
         },
         settings: Settings {
-            od: wire::number16_at(b, 10).cast_signed(),
-            frequency: wire::number32_at(b, 12).cast_signed(),
+            od: wire::signed_16(wire::number16_at(b, 10)),
+            frequency: wire::signed_32(wire::number32_at(b, 12)),
             power: wire::number16_at(b, 16),
         },
         count: Count {
@@ -123,17 +122,17 @@ fn held(block: &[u8], b: Board) -> Result<Slave, Refusal>
 
 // Resumes from any bytes on a board. A refusal leaves what a start of the board leaves: the cold slave (15) or a fresh hunting one (16, 17).
 #[tactic(auto, unfolding(crate::specs::Block::resume_refusal, crate::specs::Block::resume_of, slave::specs::Calls::start_of))]
-pub fn resume(block: &[u8], b: Board) -> Shifted
+pub fn resume(block: &[u8], b: Board) -> Left<()>
     ensures { shifted_of result ≡ resume_of block.now b }
 {
     let started = slave::start(b);
-    match started.outcome.and_then(|()| held(block, b)) {
-        Ok(slave) => Shifted {
+    match started.reply.and_then(|()| held(block, b)) {
+        Ok(slave) => Left {
             slave,
-            outcome: Ok(()),
+            reply: Ok(()),
         },
-        Err(refusal) => Shifted {
-            outcome: Err(refusal),
+        Err(refusal) => Left {
+            reply: Err(refusal),
             ..started
         },
     }

@@ -13,7 +13,7 @@ use Rattle.slave.specs.declared.NoticePart.TheVariants as notice
 use Rattle.slave.specs.declared.MarkPart as MarkPart'
 use Rattle.slave.specs.declared.MarkPart.TheVariants as mark
 use Rattle.slave.specs.declared.Counted as Counted'
-use Rattle.slave.specs.declared.Shifted.{Shifted}
+use Rattle.slave.specs.declared.Left.{Left}
 
 -- the notice's part: none, taken, slip, or a number that ignores it
 pub data Notice : Type 0 where
@@ -81,8 +81,8 @@ abbrev pub answer_of : std.Result Counted'.Counted Refusal → Reply Report
 answer_of (Ok c) = given (report_of c)
 answer_of (Err r) = refused (refusal_number r)
 
-abbrev pub shifted_of : Shifted → Result (Unit {0})
-shifted_of r = left r.slave (reply_of r.outcome)
+abbrev pub shifted_of : Left (Unit {0}) → Result (Unit {0})
+shifted_of r = left r.slave (reply_of r.reply)
 
 -- a call leaves this slave, and its answer says this reply: what an answer says is given for each form of answer
 abbrev pub Leaves : {A : Type 0} → (A → Reply Report → Type 0) → Slave → A → Result Report → Type 0

@@ -69,11 +69,11 @@ impl Answer for Result<Counted, Refusal> {
     }
 }
 
-// What a start or a gap leaves and replies.
+// What a call by value leaves and replies.
 #[derive(Clone, Copy)]
-pub struct Shifted {
+pub struct Left<T> {
     pub slave: Slave,
-    pub outcome: Result<(), Refusal>,
+    pub reply: Result<T, Refusal>,
 }
 
 // The next label moves, and nothing else of the slave.
@@ -116,25 +116,25 @@ mod steps;
 
 // Starts a slave. 15 outside the limits, and the cold slave. A gap, below, has its own test and its own slave.
 #[tactic(auto, unfolding(crate::specs::Calls::start_of))]
-pub fn start(b: Board) -> Shifted
+pub fn start(b: Board) -> Left<()>
     ensures { shifted_of result ≡ start_of b }
 {
     if state::settings_kept(b) {
-        return Shifted {
+        return Left {
             slave: state::hunting_slave(b),
-            outcome: Ok(()),
+            reply: Ok(()),
         };
     }
     cold()
 }
 
 // 15, and the cold slave.
-fn cold() -> Shifted
+fn cold() -> Left<()>
     ensures { shifted_of result ≡ left cold (refused 15) }
 {
-    Shifted {
+    Left {
         slave: state::cold_slave(),
-        outcome: Err(Refusal::StartSettings),
+        reply: Err(Refusal::StartSettings),
     }
 }
 
@@ -240,13 +240,13 @@ pub fn numbers_notice<A: Answer>(s: &mut Slave, p: &[u8], tick: u32, x: Numbers)
 
 // k packets are known to be missing.
 #[tactic(auto, unfolding(crate::specs::Calls::gap_of))]
-pub fn gap(s: Slave, k: u16) -> Shifted
+pub fn gap(s: Slave, k: u16) -> Left<()>
     ensures { shifted_of result ≡ gap_of s k }
 {
     if state::is_sound(&s) {
-        return Shifted {
+        return Left {
             slave: gaps::gapped(s, k),
-            outcome: Ok(()),
+            reply: Ok(()),
         };
     }
     cold()

@@ -9,7 +9,7 @@ ghost use Rattle.slave.specs.Step.{release_at};
 
 use crate::MarkPart;
 use crate::ready::Ready;
-use times::{Periods, Times, Unit};
+use times::{Periods, Steps, Times, Unit};
 
 // A mark of STS, MD and OD that came at a tick to a site with TAD, in a second of u units.
 #[derive(Clone, Copy)]
@@ -115,9 +115,9 @@ fn second_of(profile: u8) -> u32
     ensures { result ≡ second profile }
 {
     if profile == Periods::PROFILE {
-        times::A110_SECOND
+        Periods::SECOND
     } else {
-        times::DVB_SECOND
+        Steps::SECOND
     }
 }
 

@@ -3,13 +3,14 @@
 #![tactic(auto)]
 
 ghost use Rattle.std.specs.Prelude.{◌≡◌, [], ◌∷◌, ◌+◌, ◌-◌, ◌≤◌, length};
-ghost use Rattle.slave.specs.Answer.{option_of, notice_of, mark_of, report_of, answer_of};
+ghost use Rattle.slave.specs.Answer.{due, due_in, option_of, notice_of, mark_of, report_of, answer_of};
 ghost use Rattle.text.specs.Decimal.{decimal, most_digits};
 ghost use Rattle.text.specs.Line.{label_text, notice_text, mark_text, report_text, numbered, refusal_text, line_of, site_line, end_line};
 ghost use Rattle.text.specs.Rooms.{column_room, mark_room, report_room, numbered_room, refusal_room, line_room, site_room, end_room};
 ghost use Rattle.text.specs.Puts.{Puts, Placed};
 
 use slave::{Counted, MarkPart, NoticePart};
+use times::{Times, Unit};
 use wire::Refusal;
 
 // The fixed words before numbers: specs/Words.antt.
@@ -114,9 +115,20 @@ impl Page<'_> {
         match mark {
             MarkPart::Unmarked => self.byte(b'-'),
             MarkPart::Untimed => self.word(b"untimed"),
-            MarkPart::Dvb(None) | MarkPart::A110(None) => self.word(b"late"),
-            MarkPart::Dvb(Some(t)) => self.decimal(t.emission.0.into()),
-            MarkPart::A110(Some(t)) => self.decimal(t.emission.0.into()),
+            MarkPart::Dvb(t) => self.due(t),
+            MarkPart::A110(t) => self.due(t),
+        }
+    }
+
+    // A mark that is due, in either unit: late, or its emission time.
+    fn due<T: Unit>(&mut self, t: Option<Times<T>>)
+        requires { self.old.at + mark_room ≤ length self.old.out.now }
+        ensures same { self.new.out.ghost_name ≡ self.old.out.ghost_name }
+        ensures puts { Puts mark_room self.old.out.now self.old.at (mark_text (due T.PROFILE (due_in T.count t))) self.new.out.now self.new.at }
+    {
+        match t {
+            None => self.word(b"late"),
+            Some(t) => self.decimal(t.emission.count().into()),
         }
     }
 

@@ -2,17 +2,13 @@
 // What a mark is released with stands here too; a release is reckoned in crate `slave`, where the limits are known to hold.
 #![tactic(auto)]
 
-ghost use Rattle.std.specs.Prelude.{◌≡◌, Bool, ℕ, ℤ, pos, ◌+ℤ◌};
+ghost use Rattle.std.specs.Prelude.{◌≡◌, ◌≤◌, Bool, ℕ, ℤ, pos, ◌+ℤ◌};
+ghost use Rattle.std.proofs.Common.{rules};
 ghost use Rattle.wire.specs.Standards.{dvb_second, a110_second};
 ghost use Rattle.times.specs.Release.{in_second, delay_fits, delay_fits_a110};
 ghost use Rattle.times.specs.Answer.{number, steps, periods, times_in};
 
-// U, the units of a second, each of its own document; `Unit::SECOND` is one of them.
-pub const DVB_SECOND: u32 = 10_000_000;
-
-pub const A110_SECOND: u32 = 0x127_E892;
-
-// The unit of a profile: the profile's number, its second, and its refusal 13, for the profiles do not refuse the same delays.
+// The unit of a profile: the profile's number, U, the units of its second, and its refusal 13, for the profiles do not refuse the same delays.
 pub trait Unit: Copy {
     ghost PROFILE: { ℕ };
 
@@ -35,6 +31,9 @@ pub trait Unit: Copy {
     // Whether MD, OD and TAD pass 13.
     fn delay_fits(self, od: i16, tad: Self) -> bool
         ensures { result ≡ delay_fits self od tad };
+
+    // The profiles are 0 and 1.
+    ghost is_profile: { PROFILE ≤ 1 };
 }
 
 // A time or a delay of profile 0, in steps of 100 ns.
@@ -58,7 +57,7 @@ impl Unit for Steps {
 
     const PROFILE: u8 = 0;
 
-    const SECOND: u32 = DVB_SECOND;
+    const SECOND: u32 = 10_000_000;
 
     fn of(units: u32) -> Steps {
         Steps(units)
@@ -71,8 +70,10 @@ impl Unit for Steps {
     // Profile 0 has no limit of TAD here.
     #[tactic(auto, unfolding(crate::specs::Release::delay_fits, crate::specs::Whole::within))]
     fn delay_fits(self, od: i16, _tad: Steps) -> bool {
-        (0..i64::from(DVB_SECOND)).contains(&delay(self.0, od))
+        (0..i64::from(Steps::SECOND)).contains(&delay(self.0, od))
     }
+
+    ghost is_profile = { Prim.search rules };
 }
 
 impl Unit for Periods {
@@ -86,7 +87,7 @@ impl Unit for Periods {
 
     const PROFILE: u8 = 1;
 
-    const SECOND: u32 = A110_SECOND;
+    const SECOND: u32 = 0x127_E892;
 
     fn of(units: u32) -> Periods {
         Periods(units)
@@ -99,9 +100,11 @@ impl Unit for Periods {
     #[tactic(auto, unfolding(crate::specs::Release::delay_fits, crate::specs::Release::delay_fits_a110, crate::specs::Whole::within))]
     fn delay_fits(self, od: i16, tad: Periods) -> bool {
         let delay = delay(self.0, od);
-        let second = i64::from(A110_SECOND);
+        let second = i64::from(Periods::SECOND);
         (0..second).contains(&delay) && (1..second).contains(&(delay + i64::from(tad.0)))
     }
+
+    ghost is_profile = { Prim.search rules };
 }
 
 // MD + OD.

@@ -16,7 +16,7 @@ ghost use Rattle.vikombare.specs.Flat.{tick_on, flat_change, dvb_board, a110_boa
 use judging::Numbers;
 use notice::Notice;
 use replies::{PacketReply, Step};
-use slave::{Shifted, Way};
+use slave::{Left, Way};
 use state::{Board, Slave};
 use times::{Periods, Steps, Unit};
 use wire::Refusal;
@@ -47,13 +47,13 @@ pub struct NoticeRead {
 }
 
 // The number and the slave of a start, a gap or a resume.
-impl From<Shifted> for Change {
+impl From<Left<()>> for Change {
     ghost from_gives = { λ x r. r ≡ flat_change (shifted_of x) };
 
-    fn from(x: Shifted) -> Change {
+    fn from(x: Left<()>) -> Change {
         Change {
             slave: x.slave,
-            number: replies::outcome_number(x.outcome),
+            number: replies::outcome_number(x.reply),
         }
     }
 }

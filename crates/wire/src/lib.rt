@@ -95,14 +95,16 @@ pub fn number32_at(b: &[u8], i: usize) -> u32
     u32::from_be_bytes(bytes_at(b, i))
 }
 
-// The lowest byte of a number. This, and the library's methods by the names of the definitions below, stay for their promise, whoever calls them.
+// The lowest byte of a number. No call here has need of it; what it promises stands for who links the library.
 pub fn low_byte(w: u32) -> u8
     ensures { result ≡ byte0 w }
 {
-    (w % 256) as u8
+    let [.., low] = w.to_be_bytes();
+    low
 }
 
-// The bytes of a number of 16 bits.
+// The bytes of a number of 16 bits. Here and below: what one generic function would do, the library's method does, for each type. A name for each size says
+// it in the definition's word, so that who calls it has nothing to prove.
 pub fn bytes_16(w: u16) -> [u8; 2]
     ensures { result ≡ bytes16 w }
 {
