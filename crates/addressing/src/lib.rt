@@ -1,7 +1,7 @@
 // The individual addressing field of a notice, TS 101 191 clause 6: its form, and the settings that it gives a site.
 #![tactic(auto)]
 
-ghost use Rattle.std.specs.Prelude.{◌≡◌, ◌≤◌, cond, slice_index, length, drop, IfOk};
+ghost use Rattle.std.specs.Prelude.{◌≡◌, ◌≤◌, true, slice_index, length, drop, IfOk};
 ghost use Rattle.addressing.specs.Functions.{no_settings, length_fits, set_by, formed, functions_of};
 ghost use Rattle.addressing.specs.Entries.{addressed, settings_of, well_formed};
 ghost use Rattle.wire.specs.Reply.{given, reply_of};
@@ -32,15 +32,15 @@ fn addressed(site: u16, id: u16) -> bool
     id == 0 || id == site
 }
 
-// The settings after one function, which is its tag, its length and its body, where it applies: an arm for each row of subclause 6.1, which has the length,
+// The settings after one function, which is its tag, its length and its body: an arm for each row of subclause 6.1, which has the length,
 // so that reads need no test of it.
 #[tactic(auto, unfolding(crate::specs::Functions::length_fits, crate::specs::Functions::set_by))]
-fn set_by(on: bool, function: &[u8], t: Settings) -> Result<Settings, Refusal>
+fn set_by(function: &[u8], t: Settings) -> Result<Settings, Refusal>
     ensures value { reply_of result ≡ formed (length_fits (slice_index function.now 0) (length function.now))
-        (given (cond on (set_by (slice_index function.now 0) (drop 2 function.now) t) t)) }
+        (given (set_by (slice_index function.now 0) (drop 2 function.now) t)) }
     ensures counted { IfOk result (λ u. 2 ≤ length function.now) }
 {
-    let told = match function {
+    Ok(match function {
         [0, _, a, b] => Settings {
             od: wire::signed_16(u16::from_be_bytes([*a, *b])),
             ..t
@@ -55,22 +55,20 @@ fn set_by(on: bool, function: &[u8], t: Settings) -> Result<Settings, Refusal>
         },
         [3..=255, _, ..] => t,
         _ => return Err(Refusal::AddressingForm),
-    };
-    Ok(if on { told } else { t })
+    })
 }
 
-// The settings after the functions of a loop, where they apply: the form of every loop is judged, so that `on` says no more than what enters.
+// The settings after the functions of a loop. The form of every loop is judged, so that the caller says whether they enter.
 #[tactic(auto, using(crate::proofs::Turns::functions_turns))]
-fn functions(on: bool, mut s: &[u8], before: Settings) -> Result<Settings, Refusal>
-    ensures { reply_of result ≡ functions_of on s.now before }
+fn functions(mut s: &[u8], before: Settings) -> Result<Settings, Refusal>
+    ensures { reply_of result ≡ functions_of true s.now before }
 {
     let mut t = before;
-    // `as` is proved to lose nothing; the answers speak of the byte itself
     while let [_, n, ..] = s {
         let (function, rest) = s
-            .split_at_checked(*n as usize)
+            .split_at_checked(usize::from(*n))
             .ok_or(Refusal::AddressingForm)?;
-        t = set_by(on, function, t)?;
+        t = set_by(function, t)?;
         s = rest;
     }
     if s.is_empty() {
@@ -86,13 +84,14 @@ pub fn settings_of(mut s: &[u8], site: u16, before: Settings) -> Result<Settings
     ensures { reply_of result ≡ settings_of s.now site before }
 {
     let mut t = before;
-    // `as` is proved to lose nothing
     while let [high, low, n, rest @ ..] = s {
         let (entry, rest) = rest
-            .split_at_checked(*n as usize)
+            .split_at_checked(usize::from(*n))
             .ok_or(Refusal::AddressingForm)?;
-        let on = addressed(site, u16::from_be_bytes([*high, *low]));
-        t = functions(on, entry, t)?;
+        let told = functions(entry, t)?;
+        if addressed(site, u16::from_be_bytes([*high, *low])) {
+            t = told;
+        }
         s = rest;
     }
     if s.is_empty() {

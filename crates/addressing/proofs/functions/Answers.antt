@@ -1,19 +1,20 @@
 -- Each turn does the first function, so that the invariant carries what is left to the whole.
-use Rattle.std.proofs.Common.{◌≡◌, ◌∙◌, sym, rules}
-use Rattle.wire.specs.Reply.{reply_of, refused, given, refusal_number}
+use Rattle.std.proofs.Common.{◌≡◌, ◌∙◌, sym, rules, true}
+use Rattle.wire.specs.Reply.{reply_of}
+use Rattle.addressing.specs.Functions.{functions_of}
+use Rattle.addressing.specs.Entries.{and_then}
 use Rattle.addressing.proofs.Turns.{functions_on}
 use Rattle.addressing.proofs.functions.Goals as goal
+use Rattle.addressing.proofs.functions.Goals.{After-set_by}
+
+turn : (c : After-set_by) → and_then (reply_of c.set_by.result) (functions_of true c.in_ok-function.rest.now) ≡ functions_of true c.args.s.now c.args.before
+turn c =
+    sym (functions_on c.loop-s.t c.loop-s.s.now c.in_ok-function.function.now c.in_ok-function.rest.now (reply_of c.set_by.result) c.in-len2-up.len_at_least
+    (rw (c.from.ensures, c.in_ok-function.ensures.ok_part) at c.split_at_checked.ensures.cases) c.set_by.ensures.value)
+    ∙ c.loop-s.invariant
 
 pub returns-in_err-t : goal.returns-in_err-t
-returns-in_err-t c =
-    let e : reply_of c.from_residual-in_err-t.result ≡ refused (refusal_number c.in_err-t.field-0.0) = search rules in
-    e
-    ∙ sym (functions_on c.args.on c.loop-s.t c.loop-s.s.now c.in_ok-function.function.now c.in_ok-function.rest.now
-    (refused (refusal_number c.in_err-t.field-0.0)) c.in-len2-up.len_at_least (rw c.in_ok-function.ensures.ok_part at c.split_at_checked.ensures.cases) (search (rules, c.in_err-t.ensures)))
-    ∙ c.loop-s.invariant
+returns-in_err-t c = search (rules, turn (goal.at.returns-in_err-t c).After-set_by)
 
 pub loop-s-preserved : goal.loop-s-preserved
-loop-s-preserved c =
-    sym (functions_on c.args.on c.loop-s.t c.loop-s.s.now c.in_ok-function.function.now c.in_ok-function.rest.now (given c.in_ok-t.t) c.in-len2-up.len_at_least
-    (rw c.in_ok-function.ensures.ok_part at c.split_at_checked.ensures.cases) (search (rules, c.in_ok-t.ensures)))
-    ∙ c.loop-s.invariant
+loop-s-preserved c = search (rules, turn (goal.at.loop-s-preserved c).After-set_by)
