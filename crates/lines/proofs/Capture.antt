@@ -1,5 +1,5 @@
 -- Laws of records: where a record's bytes lie in an input, and some records and then more.
-use mathlib.Core.Path.{◌≡◌, refl, sym, ap, ap₂, ◌∙◌}
+use mathlib.Core.Path.{◌≡◌, sym, ap, ap₂, ◌∙◌}
 use mathlib.Core.List.{List, ◌++◌, append_assoc}
 use Prim.Native.Nat.{ℕ, zero, suc, ◌+◌, ◌-◌, ◌*◌, ◌/◌, ◌≤◌, ◌<◌, min}
 use native.Mathlib.Nat.{min-le_left, zero-add}
@@ -12,6 +12,7 @@ use Rattle.wire.specs.Reply.{refused}
 use Rattle.wire.specs.BigEndian.{be32_at}
 use Rattle.cadence.specs.Cadence.{at_some_rate, is_mega_frame, admits}
 use Rattle.state.specs.Profile.{settings_kept}
+use Rattle.state.specs.Slave.{cold}
 use Rattle.state.specs.declared.Slave.{Slave}
 use Rattle.slave.specs.Answer.{left}
 use Rattle.slave.specs.Calls.{start_of, packet_of}
@@ -21,9 +22,14 @@ use Rattle.lines.specs.Log.{settings_length, board_in, begun_by, tick_length, re
 use Rattle.lines.specs.Pieces.{most_records, handled_in, ending_of}
 
 -- the settings at the front
-pub begun_short : (h : List ℕ) → length h < settings_length → start_of (record { profile = 0; n = 0; site = 0; tad = 0 }) ≡ begun_by h
-unfolding begun_by start_of settings_kept admits is_mega_frame at_some_rate
-begun_short h l = rw (lt-leb settings_length (length h) l) refl
+pub begun_short : (h : List ℕ) → length h < settings_length → left cold (refused 15) ≡ begun_by h
+unfolding begun_by
+begun_short h l = rw (lt-leb settings_length (length h) l)
+
+-- short ones are a start with zeros
+pub begun_zeros : (h : List ℕ) → length h < settings_length → start_of (record { profile = 0; n = 0; site = 0; tad = 0 }) ≡ begun_by h
+unfolding start_of settings_kept admits is_mega_frame at_some_rate
+begun_zeros h l = begun_short h l
 
 pub begun_long : (h : List ℕ) → settings_length ≤ length h → start_of (board_in h) ≡ begun_by h
 unfolding begun_by

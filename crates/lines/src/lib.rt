@@ -56,7 +56,7 @@ fn board_in(head: &[u8]) -> Board
 }
 
 // The start that the settings ask for. Short settings are no board: they start what zeros start, a cold slave (15).
-#[tactic(auto, using(crate::proofs::Capture::begun_short, crate::proofs::Capture::begun_long))]
+#[tactic(auto, using(crate::proofs::Capture::begun_zeros, crate::proofs::Capture::begun_long))]
 fn begun_by(head: &[u8]) -> Left<()>
     ensures { shifted_of result ≡ begun_by head.now }
 {
