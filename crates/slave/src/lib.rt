@@ -14,7 +14,7 @@ ghost use Rattle.slave.specs.Ways.{way_of, left_by};
 use addressing::Settings;
 use judging::Numbers;
 use ready::Ready;
-use state::{Board, Count, LOCKED, Slave, Waiting};
+use state::{Board, Count, Slave, Waiting};
 use times::{Periods, Steps, Times, Unit};
 use wire::Refusal;
 
@@ -144,11 +144,12 @@ fn cold() -> Shifted
 fn arrived(r: Ready<'_>, p: &[u8]) -> Way
     ensures { way_of r.entry.slave.now (Ok result) ≡ step_of r.entry.slave.now (judge_arrived r.entry.slave.now.board r.entry.slave.now.settings p.now) r.entry.tick }
 {
-    let count = r.slave.count;
     match judging::judge_arrived(r.slave.board, r.slave.settings, p) {
-        Ok(None) if count.phase != LOCKED => Way::Hunts,
-        Ok(None) if count.next == 0 => Way::Marked(r.pass_mark()),
-        Ok(None) => Way::Short(r.pass_on()),
+        Ok(None) => match r.locked() {
+            None => Way::Hunts,
+            Some(l) if l.ready.slave.count.next == 0 => Way::Marked(l.pass_mark()),
+            Some(l) => Way::Short(l.pass_on()),
+        },
         Ok(Some(t)) => Way::Moved(r.take(t)),
         Err(k) => Way::Moved(r.ignore(k)),
     }

@@ -4,10 +4,10 @@ ghost use Rattle.std.specs.Prelude.{◌≡◌, cond, ◌<◌, ◌≤◌, eqb};
 ghost use Rattle.wire.specs.Reply.{refusal_number};
 ghost use Rattle.cadence.specs.Label.{next_label};
 ghost use Rattle.slave.specs.Answer.{option_of, notice_of, mark_of, report_of, untimed, unmarked};
-ghost use Rattle.slave.specs.Step.{raised, place_of, labelled, past, locked_at, on_mark, mark_at, count_at, kept_at, counted_report, unheard_report, counted, agrees, index_before, index_after, turns, notice_taken, took};
+ghost use Rattle.slave.specs.Step.{raised, place_of, labelled, past, locked_at, mark_at, count_at, kept_at, counted_report, unheard_report, counted, agrees, index_before, index_after, turns, notice_taken, took};
 ghost use Rattle.slave.specs.Ways.{short_of, marked_of, moved_of};
 
-use crate::ready::Ready;
+use crate::ready::{Locked, Ready};
 use crate::{Counted, MarkPart, Marked, Moved, NoticePart, Short};
 use judging::Taken;
 use state::{Count, LOCKED, PENDING, Slave, UNKNOWN_INDEX, Waiting};
@@ -62,13 +62,6 @@ fn place_of(index: u8, label: u16) -> Option<u16>
     // `as` is proved to lose nothing
     let mark = (u16::from(index) + 19) % 20;
     Some(cadence::mobile_place(mark as u8, label))
-}
-
-// A locked slave's next packet is a mark.
-fn on_mark(c: Count) -> bool
-    ensures { result ≡ on_mark c }
-{
-    c.phase == LOCKED && c.next == 0
 }
 
 // The report on a counted packet of which no notice is taken.
@@ -175,14 +168,14 @@ fn notice_taken(c: Count, label: u16) -> NoticePart
     NoticePart::Taken
 }
 
-impl Ready<'_> {
+impl Locked<'_> {
     // The mark on a packet whose label the slave counted.
     #[tactic(auto, unfolding(crate::specs::Step::mark_at))]
     fn mark(self) -> MarkPart
-        ensures { mark_of result ≡ mark_at self.entry.slave.now self.entry.tick }
+        ensures { mark_of result ≡ mark_at self.entry.ready.slave.now self.entry.ready.tick }
     {
-        let s = self.slave;
-        if !on_mark(s.count) {
+        let s = self.ready.slave;
+        if s.count.next != 0 {
             return MarkPart::Unmarked;
         }
         if s.waiting.pending != PENDING {
@@ -191,19 +184,18 @@ impl Ready<'_> {
         self.release()
     }
 
-    // A locked slave's packet without a notice, between the marks: the label moves on. That the slave is locked is asked for here and in three more: a type
-    // that says so would be made in one place and taken apart in each of the four.
+    // A packet without a notice, between the marks: the label moves on.
     #[tactic(auto, unfolding(state::specs::Sound::sound, crate::specs::Step::mark_at, crate::specs::Step::counted))]
     pub(crate) fn pass_on(self) -> Short
-        requires { (self.slave.now.count.phase ≡ 2) × (self.slave.now.count.next ≡ 0 → ⊥) }
-        ensures { short_of self.entry.slave.now result ≡ counted self.entry.slave.now 0 self.entry.tick }
+        requires { self.ready.slave.now.count.next ≡ 0 → ⊥ }
+        ensures { short_of self.entry.ready.slave.now result ≡ counted self.entry.ready.slave.now 0 self.entry.ready.tick }
     {
-        let count = self.slave.count;
+        let s = self.ready.slave;
         Short {
-            next: next_label(self.slave.board.n, count.next),
+            next: next_label(s.board.n, s.count.next),
             report: counted(
-                count.next,
-                count.index,
+                s.count.next,
+                s.count.index,
                 NoticePart::Absent,
                 MarkPart::Unmarked,
             ),
@@ -213,14 +205,27 @@ impl Ready<'_> {
     // A mark without a notice of its own: a waiting notice is released, and gone.
     #[tactic(auto, unfolding(state::specs::Sound::sound, crate::specs::Step::mark_at, crate::specs::Step::counted))]
     pub(crate) fn pass_mark(self) -> Marked
-        requires { (self.slave.now.count.phase ≡ 2) × (self.slave.now.count.next ≡ 0) }
-        ensures { marked_of self.entry.slave.now result ≡ counted self.entry.slave.now 0 self.entry.tick }
+        requires { self.ready.slave.now.count.next ≡ 0 }
+        ensures { marked_of self.entry.ready.slave.now result ≡ counted self.entry.ready.slave.now 0 self.entry.ready.tick }
     {
-        let label = self.slave.count.next;
-        let after = past(self.slave.count, 1);
+        let s = self.ready.slave;
+        let after = past(s.count, 1);
         Marked {
-            count: labelled(after, next_label(self.slave.board.n, label)),
-            report: counted(label, after.index, NoticePart::Absent, self.mark()),
+            count: labelled(after, next_label(s.board.n, s.count.next)),
+            report: counted(s.count.next, after.index, NoticePart::Absent, self.mark()),
+        }
+    }
+}
+
+impl Ready<'_> {
+    // The mark on a packet whose label the slave counted: a hunting slave counts none.
+    #[tactic(auto, unfolding(crate::specs::Step::mark_at))]
+    fn mark(self) -> MarkPart
+        ensures { mark_of result ≡ mark_at self.entry.slave.now self.entry.tick }
+    {
+        match self.locked() {
+            Some(l) => l.mark(),
+            None => MarkPart::Unmarked,
         }
     }
 
@@ -231,21 +236,21 @@ impl Ready<'_> {
     {
         let s = self.slave;
         let notice = NoticePart::Ignored(why);
-        if s.count.phase != LOCKED {
+        let Some(l) = self.locked() else {
             return Moved {
                 settings: s.settings,
                 count: s.count,
                 waiting: s.waiting,
                 report: unheard(notice),
             };
-        }
+        };
         let label = s.count.next;
         let after = count_at(s.count);
         Moved {
             settings: s.settings,
             count: labelled(after, next_label(s.board.n, label)),
             waiting: kept_at(*s),
-            report: counted(label, after.index, notice, self.mark()),
+            report: counted(label, after.index, notice, l.mark()),
         }
     }
 

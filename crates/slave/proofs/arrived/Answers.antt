@@ -6,9 +6,9 @@ use Rattle.judging.proofs.Judging.{arrived_limits}
 use Rattle.slave.specs.Step.{step_of, counted, unheard}
 use Rattle.slave.proofs.arrived.Goals as goal
 
-pub returns-in-Ok-None : goal.returns-in-Ok-None
+pub returns-in-None : goal.returns-in-None
 unfolding step_of counted unheard
-returns-in-Ok-None c = grind (arith, common_steps, nat_tests)
+returns-in-None c = grind (arith, common_steps, nat_tests)
 
 pub take-requires : goal.take-requires
 take-requires c = grind (arith, common_steps, arrived_limits)

@@ -8,9 +8,9 @@ use Rattle.std.proofs.lemmas.Bool.Decides.{nat_tests}
 use Rattle.slave.proofs.Stepping.{notice_ignored}
 use Rattle.slave.proofs.ready.Ready.ignore.Goals as goal
 
-pub returns-then-s-ne-LOCKED : goal.returns-then-s-ne-LOCKED
+pub returns-in_default : goal.returns-in_default
 unfolding counted unheard
-returns-then-s-ne-LOCKED c = grind (arith, common_steps, nat_tests, notice_ignored, refusal_positive)
+returns-in_default c = grind (arith, common_steps, nat_tests, notice_ignored, refusal_positive)
 
 pub next_label-requires : goal.next_label-requires
 next_label-requires c = (fitting c.args.self.slave.now c.args.self.is_sound).below
