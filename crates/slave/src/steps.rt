@@ -100,26 +100,6 @@ fn kept_at(s: Slave) -> Waiting
     s.waiting
 }
 
-// Whether a locked slave counted this label. Here and below a count and a label are two things: the label is the notice's.
-fn agrees(c: Count, label: u16) -> bool
-    ensures { result ≡ agrees c label }
-{
-    c.phase == LOCKED && label == c.next
-}
-
-// The mark on a packet whose notice is taken: on agreement the counted one, else label 0 is untimed.
-fn mark_taken(c: Count, label: u16, own: MarkPart) -> MarkPart
-    ensures { mark_of result ≡ cond (agrees c label) (mark_of own) (cond (eqb label 0) untimed unmarked) }
-{
-    if agrees(c, label) {
-        return own;
-    }
-    if label == 0 {
-        return MarkPart::Untimed;
-    }
-    MarkPart::Unmarked
-}
-
 // The count after the mark on this packet.
 fn count_at(c: Count) -> Count
     ensures { result ≡ count_at c }
@@ -128,16 +108,6 @@ fn count_at(c: Count) -> Count
         return past(c, 1);
     }
     c
-}
-
-// The index before the notice's own: a slip and the first lock have none.
-fn index_before(c: Count, label: u16) -> u8
-    ensures { result ≡ index_before c label }
-{
-    if agrees(c, label) {
-        return count_at(c).index;
-    }
-    UNKNOWN_INDEX
 }
 
 // An unknown index keeps what is there, any other enters.
@@ -157,15 +127,54 @@ fn turned(before: u8, index: u8) -> bool
     index != UNKNOWN_INDEX && before != UNKNOWN_INDEX && before != index
 }
 
-// Taken, or a slip where a locked slave counted otherwise.
-#[tactic(auto, unfolding(crate::specs::Step::notice_taken))]
-fn notice_taken(c: Count, label: u16) -> NoticePart
-    ensures { notice_of result ≡ notice_taken c label }
-{
-    if c.phase == LOCKED && label != c.next {
-        return NoticePart::Slip;
+// A slave's count, and the label that a notice gives its packet.
+#[derive(Clone, Copy)]
+struct Heard {
+    count: Count,
+    label: u16,
+}
+
+impl Heard {
+    // Whether a locked slave counted this label.
+    fn agrees(self) -> bool
+        ensures { result ≡ agrees self.count self.label }
+    {
+        self.count.phase == LOCKED && self.label == self.count.next
     }
-    NoticePart::Taken
+
+    // The mark on the packet: on agreement the counted one, else label 0 is untimed.
+    fn mark(self, own: MarkPart) -> MarkPart
+        ensures { mark_of result ≡ cond (agrees self.count self.label) (mark_of own) (cond (eqb self.label 0) untimed unmarked) }
+    {
+        if self.agrees() {
+            return own;
+        }
+        if self.label == 0 {
+            return MarkPart::Untimed;
+        }
+        MarkPart::Unmarked
+    }
+
+    // The index before the notice's own: a slip and the first lock have none.
+    fn index_before(self) -> u8
+        ensures { result ≡ index_before self.count self.label }
+    {
+        if self.agrees() {
+            return count_at(self.count).index;
+        }
+        UNKNOWN_INDEX
+    }
+
+    // Taken, or a slip where a locked slave counted otherwise.
+    #[tactic(auto, unfolding(crate::specs::Step::notice_taken))]
+    fn notice(self) -> NoticePart
+        ensures { notice_of result ≡ notice_taken self.count self.label }
+    {
+        if self.count.phase == LOCKED && self.label != self.count.next {
+            return NoticePart::Slip;
+        }
+        NoticePart::Taken
+    }
 }
 
 impl Locked<'_> {
@@ -262,15 +271,17 @@ impl Ready<'_> {
         ensures { moved_of self.entry.slave.now result ≡ took self.entry.slave.now t self.entry.tick }
     {
         let n = self.slave.board.n;
-        let count = self.slave.count;
-        let label = n - 1 - t.pointer;
-        let before = index_before(count, label);
+        let heard = Heard {
+            count: self.slave.count,
+            label: n - 1 - t.pointer,
+        };
+        let before = heard.index_before();
         let index = index_after(before, t.index);
         Moved {
             settings: t.settings,
             count: Count {
                 phase: LOCKED,
-                next: next_label(n, label),
+                next: next_label(n, heard.label),
                 index,
             },
             waiting: Waiting {
@@ -279,11 +290,11 @@ impl Ready<'_> {
                 md: t.md,
             },
             report: Counted {
-                label: Some(label),
-                notice: notice_taken(count, label),
+                label: Some(heard.label),
+                notice: heard.notice(),
                 turn: turned(before, t.index),
-                mark: mark_taken(count, label, self.mark()),
-                place: place_of(index, label),
+                mark: heard.mark(self.mark()),
+                place: place_of(index, heard.label),
             },
         }
     }
