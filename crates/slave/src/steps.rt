@@ -170,7 +170,7 @@ impl Heard {
     fn notice(self) -> NoticePart
         ensures { notice_of result ≡ notice_taken self.count self.label }
     {
-        if self.count.phase == LOCKED && self.label != self.count.next {
+        if self.count.phase == LOCKED && !self.agrees() {
             return NoticePart::Slip;
         }
         NoticePart::Taken
