@@ -1,10 +1,16 @@
--- A number of C as a notice's part.
-use mathlib.Core.Path.{◌≡◌, refl}
-use Prim.Native.Nat.{ℕ, zero, suc}
-use Rattle.slave.specs.Answer.{ignored}
-use Rattle.slave.specs.Step.{notice_by}
+-- What the steps take from a sound slave.
+use mathlib.Core.Path.{◌≡◌}
+use mathlib.Core.Bool.{true}
+use Prim.Native.Nat.{◌<◌}
+use Rattle.state.specs.Sound.{sound}
+use Rattle.state.specs.declared.Slave.{Slave}
+use Rattle.state.proofs.Sound.{profile_small, settings_kept_lem, fitting}
 
--- a number of C ignores the notice
-pub notice_ignored : (k : ℕ) → (k ≡ 0 → ⊥) → ignored k ≡ notice_by k
-notice_ignored zero h = absurd (h refl)
-notice_ignored (suc k) h = refl
+module _ (s : Slave) (ok : sound s ≡ true) where
+  -- 0 or 1
+  pub profile_below : s.board.profile < 2
+  profile_below = profile_small s.board (settings_kept_lem s ok)
+
+  -- the next label is within the cadence
+  pub next_below : s.count.next < s.board.n
+  next_below = (fitting s ok).below

@@ -15,7 +15,7 @@ fn to_mark(n: u32, next: u32) -> u32
 }
 
 // The slave after k missing packets.
-#[tactic(auto, unfolding(crate::specs::Gap::gapped))]
+#[tactic(auto, using(crate::proofs::Stepping::next_below), unfolding(crate::specs::Gap::gapped))]
 pub(crate) fn gapped(s: Slave, k: u16) -> Slave
     requires { sound s ≡ true }
     ensures { result ≡ gapped s k }

@@ -140,7 +140,7 @@ fn cold() -> Shifted
 
 // A packet that arrived right, on a sound slave: what was judged decides which step is gone, and each is one method. Packets and numbers notices have a
 // function each, of one caller, so that the compiler keeps the steps of either out of memory.
-#[tactic(auto, unfolding(crate::specs::Step::step_of, judging::specs::Judge::judge_arrived))]
+#[tactic(auto, using(judging::proofs::Judging::arrived_limits), unfolding(crate::specs::Step::step_of, crate::specs::Step::counted, crate::specs::Step::unheard))]
 fn arrived(r: Ready<'_>, p: &[u8]) -> Way
     ensures { way_of r.entry.slave.now (Ok result) ≡ step_of r.entry.slave.now (judge_arrived r.entry.slave.now.board r.entry.slave.now.settings p.now) r.entry.tick }
 {
@@ -156,7 +156,7 @@ fn arrived(r: Ready<'_>, p: &[u8]) -> Way
 }
 
 // A numbers notice whose packet arrived right, on a sound slave.
-#[tactic(auto, unfolding(crate::specs::Step::step_of, judging::specs::Judge::judge_given))]
+#[tactic(auto, using(judging::proofs::Judging::given_limits), unfolding(crate::specs::Step::step_of))]
 fn given(r: Ready<'_>, p: &[u8], x: Numbers) -> Way
     ensures { way_of r.entry.slave.now (Ok result) ≡ step_of r.entry.slave.now (judge_given r.entry.slave.now.board r.entry.slave.now.settings p.now x) r.entry.tick }
 {

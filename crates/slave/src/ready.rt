@@ -27,7 +27,7 @@ pub(crate) struct Locked<'a> {
 
 impl<'a> Ready<'a> {
     // 15, then 1 to 3.
-    #[tactic(auto, unfolding(crate::specs::Calls::ready_refusal))]
+    #[tactic(auto, using(judging::proofs::Judging::arrived_tick), unfolding(crate::specs::Calls::ready_refusal))]
     #[inline(always)]
     pub(crate) fn new(s: &'a Slave, p: &[u8], tick: u32) -> Result<Ready<'a>, Refusal>
         ensures refusal { number_of (reply_of result) ≡ ready_refusal s.now p.now tick }

@@ -123,6 +123,7 @@ fn second_of(profile: u8) -> u32
 
 impl Locked<'_> {
     // The mark on this packet, whose notice waits.
+    #[tactic(auto, using(state::proofs::Sound::pending_kept, state::proofs::Profiles::second_small))]
     fn arrival(self) -> Arrival
         requires { self.ready.slave.now.waiting.pending ≡ 1 }
         ensures { due_of result.u result.sts result.md result.od result.tad result.tick ≡ due_of (second self.entry.ready.slave.now.board.profile) self.entry.ready.slave.now.waiting.sts self.entry.ready.slave.now.waiting.md self.entry.ready.slave.now.settings.od self.entry.ready.slave.now.board.tad self.entry.ready.tick }
@@ -139,7 +140,7 @@ impl Locked<'_> {
     }
 
     // Its release, in the unit of its profile. A call of its own: marks are rare, and the registers are for the packets between them.
-    #[tactic(auto, unfolding(crate::specs::Step::release_at))]
+    #[tactic(auto, using(crate::proofs::Stepping::profile_below), unfolding(crate::specs::Step::release_at))]
     #[inline(never)]
     pub(crate) fn release(self) -> MarkPart
         requires { self.ready.slave.now.waiting.pending ≡ 1 }

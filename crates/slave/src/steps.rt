@@ -194,7 +194,7 @@ impl Locked<'_> {
     }
 
     // A packet without a notice, between the marks: the label moves on.
-    #[tactic(auto, unfolding(state::specs::Sound::sound, crate::specs::Step::mark_at, crate::specs::Step::counted))]
+    #[tactic(auto, using(crate::proofs::Stepping::next_below), unfolding(crate::specs::Step::mark_at, crate::specs::Step::passed, crate::specs::Step::counted))]
     pub(crate) fn pass_on(self) -> Short
         requires { self.ready.slave.now.count.next ≡ 0 → ⊥ }
         ensures { short_of self.entry.ready.slave.now result ≡ counted self.entry.ready.slave.now 0 self.entry.ready.tick }
@@ -212,7 +212,7 @@ impl Locked<'_> {
     }
 
     // A mark without a notice of its own: a waiting notice is released, and gone.
-    #[tactic(auto, unfolding(state::specs::Sound::sound, crate::specs::Step::mark_at, crate::specs::Step::counted))]
+    #[tactic(auto, using(crate::proofs::Stepping::next_below), unfolding(crate::specs::Step::passed, crate::specs::Step::counted))]
     pub(crate) fn pass_mark(self) -> Marked
         requires { self.ready.slave.now.count.next ≡ 0 }
         ensures { marked_of self.entry.ready.slave.now result ≡ counted self.entry.ready.slave.now 0 self.entry.ready.tick }
@@ -239,7 +239,7 @@ impl Ready<'_> {
     }
 
     // A packet whose notice a number of C ignores: it counts. All three parts are named, though a hunting slave's stay: a way says what stands afterwards.
-    #[tactic(auto, unfolding(state::specs::Sound::sound, crate::specs::Step::mark_at, crate::specs::Step::counted))]
+    #[tactic(auto, using(crate::proofs::Stepping::next_below), unfolding(crate::specs::Step::passed, crate::specs::Step::unheard, crate::specs::Step::counted))]
     pub(crate) fn ignore(self, why: Refusal) -> Moved
         ensures { moved_of self.entry.slave.now result ≡ counted self.entry.slave.now (refusal_number why) self.entry.tick }
     {
@@ -264,7 +264,7 @@ impl Ready<'_> {
     }
 
     // A notice is taken: its label decides, then the notice and its settings enter. Inlined: a notice takes 51 ns so, and 62 ns through memory.
-    #[tactic(auto, unfolding(crate::specs::Step::mark_at, crate::specs::Step::took))]
+    #[tactic(auto, unfolding(crate::specs::Step::mark_taken, crate::specs::Step::took))]
     #[inline(always)]
     pub(crate) fn take(self, t: Taken) -> Moved
         requires { t.pointer < self.slave.now.board.n }
