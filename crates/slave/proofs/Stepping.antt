@@ -1,18 +1,16 @@
--- A number of C as a notice's part, and what a mark that the slave counts shows of its count.
-use mathlib.Core.Path.{◌≡◌, refl}
+-- What the steps take from a sound slave.
+use mathlib.Core.Path.{◌≡◌}
 use mathlib.Core.Bool.{true}
-use Prim.Native.Nat.{ℕ, zero, suc}
-use native.Mathlib.Omega.{arith}
-use Rattle.std.proofs.lemmas.Bool.Decides.{nat_tests}
-use Rattle.state.specs.declared.Count.{Count}
-use Rattle.slave.specs.Answer.{ignored}
-use Rattle.slave.specs.Step.{on_mark, notice_by}
+use Prim.Native.Nat.{◌<◌}
+use Rattle.state.specs.Sound.{sound}
+use Rattle.state.specs.declared.Slave.{Slave}
+use Rattle.state.proofs.Sound.{profile_small, settings_kept_lem, fitting}
 
--- a number of C ignores the notice
-pub notice_ignored : (k : ℕ) → (k ≡ 0 → ⊥) → ignored k ≡ notice_by k
-notice_ignored zero h = absurd (h refl)
-notice_ignored (suc k) h = refl
+module _ (s : Slave) (ok : sound s ≡ true) where
+  -- 0 or 1
+  pub profile_below : s.board.profile < 2
+  profile_below = profile_small s.board (settings_kept_lem s ok)
 
--- a mark is counted by a locked slave, as label 0
-pub marked : (c : Count) → on_mark c ≡ true → (c.phase ≡ 2) × (c.next ≡ 0)
-marked c m = grind (arith, nat_tests)
+  -- the next label is within the cadence
+  pub next_below : s.count.next < s.board.n
+  next_below = (fitting s ok).below

@@ -15,7 +15,7 @@ fn to_mark(n: u32, next: u32) -> u32
 }
 
 // The slave after k missing packets.
-#[tactic(auto, unfolding(state::specs::Sound::sound, crate::specs::Gap::gapped))]
+#[tactic(auto, using(crate::proofs::Stepping::next_below), unfolding(crate::specs::Gap::gapped))]
 pub(crate) fn gapped(s: Slave, k: u16) -> Slave
     requires { sound s ≡ true }
     ensures { result ≡ gapped s k }
@@ -23,10 +23,9 @@ pub(crate) fn gapped(s: Slave, k: u16) -> Slave
     if s.count.phase != LOCKED {
         return s;
     }
-    // `as` is proved to lose nothing; the answers below speak of the numbers that it leaves as they are
-    let n = s.board.n as u32;
-    let next = s.count.next as u32;
-    let missing = k as u32;
+    let n = u32::from(s.board.n);
+    let next = u32::from(s.count.next);
+    let missing = u32::from(k);
     let left = to_mark(n, next);
     let after = ((next + missing) % n) as u16;
     let (marks, waiting) = if missing <= left {

@@ -14,7 +14,7 @@ ghost use Rattle.slave.specs.Ways.{way_of, left_by};
 use addressing::Settings;
 use judging::Numbers;
 use ready::Ready;
-use state::{Board, Count, LOCKED, Slave, Waiting};
+use state::{Board, Count, Slave, Waiting};
 use times::{Periods, Steps, Times, Unit};
 use wire::Refusal;
 
@@ -140,22 +140,23 @@ fn cold() -> Left<()>
 
 // A packet that arrived right, on a sound slave: what was judged decides which step is gone, and each is one method. Packets and numbers notices have a
 // function each, of one caller, so that the compiler keeps the steps of either out of memory.
-#[tactic(auto, unfolding(crate::specs::Step::step_of, judging::specs::Judge::judge_arrived))]
+#[tactic(auto, using(judging::proofs::Judging::arrived_limits), unfolding(crate::specs::Step::step_of, crate::specs::Step::counted, crate::specs::Step::unheard))]
 fn arrived(r: Ready<'_>, p: &[u8]) -> Way
     ensures { way_of r.entry.slave.now (Ok result) ≡ step_of r.entry.slave.now (judge_arrived r.entry.slave.now.board r.entry.slave.now.settings p.now) r.entry.tick }
 {
-    let count = r.slave.count;
     match judging::judge_arrived(r.slave.board, r.slave.settings, p) {
-        Ok(None) if count.phase != LOCKED => Way::Hunts,
-        Ok(None) if count.next == 0 => Way::Marked(r.pass_mark()),
-        Ok(None) => Way::Short(r.pass_on()),
+        Ok(None) => match r.locked() {
+            None => Way::Hunts,
+            Some(l) if l.ready.slave.count.next == 0 => Way::Marked(l.pass_mark()),
+            Some(l) => Way::Short(l.pass_on()),
+        },
         Ok(Some(t)) => Way::Moved(r.take(t)),
         Err(k) => Way::Moved(r.ignore(k)),
     }
 }
 
 // A numbers notice whose packet arrived right, on a sound slave.
-#[tactic(auto, unfolding(crate::specs::Step::step_of, judging::specs::Judge::judge_given))]
+#[tactic(auto, using(judging::proofs::Judging::given_limits), unfolding(crate::specs::Step::step_of))]
 fn given(r: Ready<'_>, p: &[u8], x: Numbers) -> Way
     ensures { way_of r.entry.slave.now (Ok result) ≡ step_of r.entry.slave.now (judge_given r.entry.slave.now.board r.entry.slave.now.settings p.now x) r.entry.tick }
 {

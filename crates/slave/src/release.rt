@@ -8,7 +8,7 @@ ghost use Rattle.slave.specs.Answer.{due_in, mark_of};
 ghost use Rattle.slave.specs.Step.{release_at};
 
 use crate::MarkPart;
-use crate::ready::Ready;
+use crate::ready::Locked;
 use times::{Periods, Steps, Times, Unit};
 
 // A mark of STS, MD and OD that came at a tick to a site with TAD, in a second of u units.
@@ -121,32 +121,33 @@ fn second_of(profile: u8) -> u32
     }
 }
 
-impl Ready<'_> {
+impl Locked<'_> {
     // The mark on this packet, whose notice waits.
+    #[tactic(auto, using(state::proofs::Sound::pending_kept, state::proofs::Profiles::second_small))]
     fn arrival(self) -> Arrival
-        requires { (self.slave.now.count.phase ≡ 2) × (self.slave.now.waiting.pending ≡ 1) }
-        ensures { due_of result.u result.sts result.md result.od result.tad result.tick ≡ due_of (second self.entry.slave.now.board.profile) self.entry.slave.now.waiting.sts self.entry.slave.now.waiting.md self.entry.slave.now.settings.od self.entry.slave.now.board.tad self.entry.tick }
+        requires { self.ready.slave.now.waiting.pending ≡ 1 }
+        ensures { due_of result.u result.sts result.md result.od result.tad result.tick ≡ due_of (second self.entry.ready.slave.now.board.profile) self.entry.ready.slave.now.waiting.sts self.entry.ready.slave.now.waiting.md self.entry.ready.slave.now.settings.od self.entry.ready.slave.now.board.tad self.entry.ready.tick }
     {
-        let s = self.slave;
+        let s = self.ready.slave;
         Arrival {
             u: second_of(s.board.profile),
             sts: s.waiting.sts,
             md: s.waiting.md,
             od: s.settings.od,
             tad: s.board.tad,
-            tick: self.tick,
+            tick: self.ready.tick,
         }
     }
 
     // Its release, in the unit of its profile. A call of its own: marks are rare, and the registers are for the packets between them.
-    #[tactic(auto, unfolding(crate::specs::Step::release_at))]
+    #[tactic(auto, using(crate::proofs::Stepping::profile_below), unfolding(crate::specs::Step::release_at))]
     #[inline(never)]
     pub(crate) fn release(self) -> MarkPart
-        requires { (self.slave.now.count.phase ≡ 2) × (self.slave.now.waiting.pending ≡ 1) }
-        ensures { mark_of result ≡ release_at self.entry.slave.now self.entry.tick }
+        requires { self.ready.slave.now.waiting.pending ≡ 1 }
+        ensures { mark_of result ≡ release_at self.entry.ready.slave.now self.entry.ready.tick }
     {
         let arrival = self.arrival();
-        if self.slave.board.profile == Periods::PROFILE {
+        if self.ready.slave.board.profile == Periods::PROFILE {
             MarkPart::A110(arrival.due())
         } else {
             MarkPart::Dvb(arrival.due())

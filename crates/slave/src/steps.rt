@@ -4,10 +4,10 @@ ghost use Rattle.std.specs.Prelude.{◌≡◌, cond, ◌<◌, ◌≤◌, eqb};
 ghost use Rattle.wire.specs.Reply.{refusal_number};
 ghost use Rattle.cadence.specs.Label.{next_label};
 ghost use Rattle.slave.specs.Answer.{option_of, notice_of, mark_of, report_of, untimed, unmarked};
-ghost use Rattle.slave.specs.Step.{raised, place_of, labelled, past, locked_at, on_mark, mark_at, count_at, kept_at, counted_report, unheard_report, counted, agrees, index_before, index_after, turns, notice_taken, took};
+ghost use Rattle.slave.specs.Step.{raised, place_of, labelled, past, locked_at, mark_at, count_at, kept_at, counted_report, unheard_report, counted, agrees, index_before, index_after, turns, notice_taken, took};
 ghost use Rattle.slave.specs.Ways.{short_of, marked_of, moved_of};
 
-use crate::ready::Ready;
+use crate::ready::{Locked, Ready};
 use crate::{Counted, MarkPart, Marked, Moved, NoticePart, Short};
 use judging::Taken;
 use state::{Count, LOCKED, PENDING, Slave, UNKNOWN_INDEX, Waiting};
@@ -64,13 +64,6 @@ fn place_of(index: u8, label: u16) -> Option<u16>
     Some(cadence::mobile_place(mark as u8, label))
 }
 
-// A locked slave's next packet is a mark.
-fn on_mark(c: Count) -> bool
-    ensures { result ≡ on_mark c }
-{
-    c.phase == LOCKED && c.next == 0
-}
-
 // The report on a counted packet of which no notice is taken.
 fn counted(label: u16, index: u8, notice: NoticePart, mark: MarkPart) -> Counted
     ensures { report_of result ≡ counted_report label index (notice_of notice) (mark_of mark) }
@@ -107,26 +100,6 @@ fn kept_at(s: Slave) -> Waiting
     s.waiting
 }
 
-// Whether a locked slave counted this label. Here and below a count and a label are two things: the label is the notice's.
-fn agrees(c: Count, label: u16) -> bool
-    ensures { result ≡ agrees c label }
-{
-    c.phase == LOCKED && label == c.next
-}
-
-// The mark on a packet whose notice is taken: on agreement the counted one, else label 0 is untimed.
-fn mark_taken(c: Count, label: u16, own: MarkPart) -> MarkPart
-    ensures { mark_of result ≡ cond (agrees c label) (mark_of own) (cond (eqb label 0) untimed unmarked) }
-{
-    if agrees(c, label) {
-        return own;
-    }
-    if label == 0 {
-        return MarkPart::Untimed;
-    }
-    MarkPart::Unmarked
-}
-
 // The count after the mark on this packet.
 fn count_at(c: Count) -> Count
     ensures { result ≡ count_at c }
@@ -135,16 +108,6 @@ fn count_at(c: Count) -> Count
         return past(c, 1);
     }
     c
-}
-
-// The index before the notice's own: a slip and the first lock have none.
-fn index_before(c: Count, label: u16) -> u8
-    ensures { result ≡ index_before c label }
-{
-    if agrees(c, label) {
-        return count_at(c).index;
-    }
-    UNKNOWN_INDEX
 }
 
 // An unknown index keeps what is there, any other enters.
@@ -164,25 +127,64 @@ fn turned(before: u8, index: u8) -> bool
     index != UNKNOWN_INDEX && before != UNKNOWN_INDEX && before != index
 }
 
-// Taken, or a slip where a locked slave counted otherwise.
-#[tactic(auto, unfolding(crate::specs::Step::notice_taken))]
-fn notice_taken(c: Count, label: u16) -> NoticePart
-    ensures { notice_of result ≡ notice_taken c label }
-{
-    if c.phase == LOCKED && label != c.next {
-        return NoticePart::Slip;
-    }
-    NoticePart::Taken
+// A slave's count, and the label that a notice gives its packet.
+#[derive(Clone, Copy)]
+struct Heard {
+    count: Count,
+    label: u16,
 }
 
-impl Ready<'_> {
+impl Heard {
+    // Whether a locked slave counted this label.
+    fn agrees(self) -> bool
+        ensures { result ≡ agrees self.count self.label }
+    {
+        self.count.phase == LOCKED && self.label == self.count.next
+    }
+
+    // The mark on the packet: on agreement the counted one, else label 0 is untimed.
+    fn mark(self, own: MarkPart) -> MarkPart
+        ensures { mark_of result ≡ cond (agrees self.count self.label) (mark_of own) (cond (eqb self.label 0) untimed unmarked) }
+    {
+        if self.agrees() {
+            return own;
+        }
+        if self.label == 0 {
+            return MarkPart::Untimed;
+        }
+        MarkPart::Unmarked
+    }
+
+    // The index before the notice's own: a slip and the first lock have none.
+    fn index_before(self) -> u8
+        ensures { result ≡ index_before self.count self.label }
+    {
+        if self.agrees() {
+            return count_at(self.count).index;
+        }
+        UNKNOWN_INDEX
+    }
+
+    // Taken, or a slip where a locked slave counted otherwise.
+    #[tactic(auto, unfolding(crate::specs::Step::notice_taken))]
+    fn notice(self) -> NoticePart
+        ensures { notice_of result ≡ notice_taken self.count self.label }
+    {
+        if self.count.phase == LOCKED && !self.agrees() {
+            return NoticePart::Slip;
+        }
+        NoticePart::Taken
+    }
+}
+
+impl Locked<'_> {
     // The mark on a packet whose label the slave counted.
     #[tactic(auto, unfolding(crate::specs::Step::mark_at))]
     fn mark(self) -> MarkPart
-        ensures { mark_of result ≡ mark_at self.entry.slave.now self.entry.tick }
+        ensures { mark_of result ≡ mark_at self.entry.ready.slave.now self.entry.ready.tick }
     {
-        let s = self.slave;
-        if !on_mark(s.count) {
+        let s = self.ready.slave;
+        if s.count.next != 0 {
             return MarkPart::Unmarked;
         }
         if s.waiting.pending != PENDING {
@@ -191,19 +193,18 @@ impl Ready<'_> {
         self.release()
     }
 
-    // A locked slave's packet without a notice, between the marks: the label moves on. That the slave is locked is asked for here and in three more: a type
-    // that says so would be made in one place and taken apart in each of the four.
-    #[tactic(auto, unfolding(state::specs::Sound::sound, crate::specs::Step::mark_at, crate::specs::Step::counted))]
+    // A packet without a notice, between the marks: the label moves on.
+    #[tactic(auto, using(crate::proofs::Stepping::next_below), unfolding(crate::specs::Step::mark_at, crate::specs::Step::passed, crate::specs::Step::counted))]
     pub(crate) fn pass_on(self) -> Short
-        requires { (self.slave.now.count.phase ≡ 2) × (self.slave.now.count.next ≡ 0 → ⊥) }
-        ensures { short_of self.entry.slave.now result ≡ counted self.entry.slave.now 0 self.entry.tick }
+        requires { self.ready.slave.now.count.next ≡ 0 → ⊥ }
+        ensures { short_of self.entry.ready.slave.now result ≡ counted self.entry.ready.slave.now 0 self.entry.ready.tick }
     {
-        let count = self.slave.count;
+        let s = self.ready.slave;
         Short {
-            next: next_label(self.slave.board.n, count.next),
+            next: next_label(s.board.n, s.count.next),
             report: counted(
-                count.next,
-                count.index,
+                s.count.next,
+                s.count.index,
                 NoticePart::Absent,
                 MarkPart::Unmarked,
             ),
@@ -211,61 +212,76 @@ impl Ready<'_> {
     }
 
     // A mark without a notice of its own: a waiting notice is released, and gone.
-    #[tactic(auto, unfolding(state::specs::Sound::sound, crate::specs::Step::mark_at, crate::specs::Step::counted))]
+    #[tactic(auto, using(crate::proofs::Stepping::next_below), unfolding(crate::specs::Step::passed, crate::specs::Step::counted))]
     pub(crate) fn pass_mark(self) -> Marked
-        requires { (self.slave.now.count.phase ≡ 2) × (self.slave.now.count.next ≡ 0) }
-        ensures { marked_of self.entry.slave.now result ≡ counted self.entry.slave.now 0 self.entry.tick }
+        requires { self.ready.slave.now.count.next ≡ 0 }
+        ensures { marked_of self.entry.ready.slave.now result ≡ counted self.entry.ready.slave.now 0 self.entry.ready.tick }
     {
-        let label = self.slave.count.next;
-        let after = past(self.slave.count, 1);
+        let s = self.ready.slave;
+        let after = past(s.count, 1);
         Marked {
-            count: labelled(after, next_label(self.slave.board.n, label)),
-            report: counted(label, after.index, NoticePart::Absent, self.mark()),
+            count: labelled(after, next_label(s.board.n, s.count.next)),
+            report: counted(s.count.next, after.index, NoticePart::Absent, self.mark()),
+        }
+    }
+}
+
+impl Ready<'_> {
+    // The mark on a packet whose label the slave counted: a hunting slave counts none.
+    #[tactic(auto, unfolding(crate::specs::Step::mark_at))]
+    fn mark(self) -> MarkPart
+        ensures { mark_of result ≡ mark_at self.entry.slave.now self.entry.tick }
+    {
+        match self.locked() {
+            Some(l) => l.mark(),
+            None => MarkPart::Unmarked,
         }
     }
 
     // A packet whose notice a number of C ignores: it counts. All three parts are named, though a hunting slave's stay: a way says what stands afterwards.
-    #[tactic(auto, unfolding(state::specs::Sound::sound, crate::specs::Step::mark_at, crate::specs::Step::counted))]
+    #[tactic(auto, using(crate::proofs::Stepping::next_below), unfolding(crate::specs::Step::passed, crate::specs::Step::unheard, crate::specs::Step::counted))]
     pub(crate) fn ignore(self, why: Refusal) -> Moved
         ensures { moved_of self.entry.slave.now result ≡ counted self.entry.slave.now (refusal_number why) self.entry.tick }
     {
         let s = self.slave;
         let notice = NoticePart::Ignored(why);
-        if s.count.phase != LOCKED {
+        let Some(l) = self.locked() else {
             return Moved {
                 settings: s.settings,
                 count: s.count,
                 waiting: s.waiting,
                 report: unheard(notice),
             };
-        }
+        };
         let label = s.count.next;
         let after = count_at(s.count);
         Moved {
             settings: s.settings,
             count: labelled(after, next_label(s.board.n, label)),
             waiting: kept_at(*s),
-            report: counted(label, after.index, notice, self.mark()),
+            report: counted(label, after.index, notice, l.mark()),
         }
     }
 
     // A notice is taken: its label decides, then the notice and its settings enter. Inlined: a notice takes 51 ns so, and 62 ns through memory.
-    #[tactic(auto, unfolding(crate::specs::Step::mark_at, crate::specs::Step::took))]
+    #[tactic(auto, unfolding(crate::specs::Step::mark_taken, crate::specs::Step::took))]
     #[inline(always)]
     pub(crate) fn take(self, t: Taken) -> Moved
         requires { t.pointer < self.slave.now.board.n }
         ensures { moved_of self.entry.slave.now result ≡ took self.entry.slave.now t self.entry.tick }
     {
         let n = self.slave.board.n;
-        let count = self.slave.count;
-        let label = n - 1 - t.pointer;
-        let before = index_before(count, label);
+        let heard = Heard {
+            count: self.slave.count,
+            label: n - 1 - t.pointer,
+        };
+        let before = heard.index_before();
         let index = index_after(before, t.index);
         Moved {
             settings: t.settings,
             count: Count {
                 phase: LOCKED,
-                next: next_label(n, label),
+                next: next_label(n, heard.label),
                 index,
             },
             waiting: Waiting {
@@ -274,11 +290,11 @@ impl Ready<'_> {
                 md: t.md,
             },
             report: Counted {
-                label: Some(label),
-                notice: notice_taken(count, label),
+                label: Some(heard.label),
+                notice: heard.notice(),
                 turn: turned(before, t.index),
-                mark: mark_taken(count, label, self.mark()),
-                place: place_of(index, label),
+                mark: heard.mark(self.mark()),
+                place: place_of(index, heard.label),
             },
         }
     }
