@@ -16,15 +16,15 @@ use Rattle.addressing.specs.Functions.{length_fits, set_by, formed, functions_in
 use Rattle.addressing.specs.Entries.{addressed, and_then, entries_in, settings_of}
 
 -- more turns than bytes are all alike
-functions_enough : (f g : ℕ) (s : List ℕ) (t : Settings) → length s < f → length s < g → functions_in f true s t ≡ functions_in g true s t
+functions_enough : (f g : ℕ) (on : Bool) (s : List ℕ) (t : Settings) → length s < f → length s < g → functions_in f on s t ≡ functions_in g on s t
 unfolding functions_in
-functions_enough zero g s t h k = absurd (omega arith)
-functions_enough (suc f) zero s t h k = absurd (omega arith)
-functions_enough (suc f) (suc g) [] t h k = refl
-functions_enough (suc f) (suc g) (tag ∷ []) t h k = refl
-functions_enough (suc f) (suc g) (tag ∷ n ∷ rest) t h k =
+functions_enough zero g on s t h k = absurd (omega arith)
+functions_enough (suc f) zero on s t h k = absurd (omega arith)
+functions_enough (suc f) (suc g) on [] t h k = refl
+functions_enough (suc f) (suc g) on (tag ∷ []) t h k = refl
+functions_enough (suc f) (suc g) on (tag ∷ n ∷ rest) t h k =
     ap (λ (r : Reply Settings). formed (length_fits tag n) (formed (leb (n - 2) (length rest)) r))
-    (functions_enough f g (drop (n - 2) rest) (set_by tag (take (n - 2) rest) t)
+    (functions_enough f g on (drop (n - 2) rest) (cond on (set_by tag (take (n - 2) rest) t) t)
     (omega (arith, length-drop (n - 2) rest)) (omega (arith, length-drop (n - 2) rest)))
 
 none : (a b c : Bool) → cond a false (cond b false (cond c false false)) ≡ false
@@ -48,28 +48,28 @@ formed_on : (b : Bool) (r : Reply Settings) (k : Settings → Reply Settings) �
 formed_on true r k = refl
 formed_on false r k = refl
 
-module _ (t : Settings) where
+module _ (on : Bool) (t : Settings) where
   functions_turn : (tag n : ℕ) (rest : List ℕ)
-      → functions_of true (tag ∷ n ∷ rest) t
-      ≡ formed (length_fits tag n) (formed (leb (n - 2) (length rest)) (functions_of true (drop (n - 2) rest) (set_by tag (take (n - 2) rest) t)))
+      → functions_of on (tag ∷ n ∷ rest) t
+      ≡ formed (length_fits tag n) (formed (leb (n - 2) (length rest)) (functions_of on (drop (n - 2) rest) (cond on (set_by tag (take (n - 2) rest) t) t)))
   unfolding functions_in functions_of
   functions_turn tag n rest =
       ap (λ (r : Reply Settings). formed (length_fits tag n) (formed (leb (n - 2) (length rest)) r))
-      (functions_enough (length (tag ∷ n ∷ rest)) (suc (length (drop (n - 2) rest))) (drop (n - 2) rest) (set_by tag (take (n - 2) rest) t)
+      (functions_enough (length (tag ∷ n ∷ rest)) (suc (length (drop (n - 2) rest))) on (drop (n - 2) rest) (cond on (set_by tag (take (n - 2) rest) t) t)
       (omega (arith, length-drop (n - 2) rest)) (omega arith))
 
-  pub functions_done : (s : List ℕ) → length s ≡ 0 → functions_of true s t ≡ given t
+  pub functions_done : (s : List ℕ) → length s ≡ 0 → functions_of on s t ≡ given t
   unfolding functions_in functions_of
   functions_done [] h = refl
   functions_done (a ∷ s) h = absurd (omega arith)
 
-  pub functions_cut : (s : List ℕ) → 0 < length s → length s < 2 → functions_of true s t ≡ refused 10
+  pub functions_cut : (s : List ℕ) → 0 < length s → length s < 2 → functions_of on s t ≡ refused 10
   unfolding functions_in functions_of
   functions_cut [] h k = absurd (omega arith)
   functions_cut (tag ∷ []) h k = refl
   functions_cut (tag ∷ n ∷ rest) h k = absurd (omega arith)
 
-  pub functions_over : (s : List ℕ) → 2 ≤ length s → length s < get_or s 1 0 → functions_of true s t ≡ refused 10
+  pub functions_over : (s : List ℕ) → 2 ≤ length s → length s < get_or s 1 0 → functions_of on s t ≡ refused 10
   functions_over [] h l = absurd (omega arith)
   functions_over (tag ∷ []) h l = absurd (omega arith)
   functions_over (tag ∷ n ∷ s) h l = rw (functions_turn tag n s, lt-leb (n - 2) (length s) (omega arith)) (either (length_fits tag n))
@@ -78,10 +78,10 @@ module _ (t : Settings) where
       either true = refl
       either false = refl
 
-  -- what the first function gives goes on
+  -- what the first function tells goes on where it applies
   pub functions_on : (s function rest : List ℕ) (r : Reply Settings) → 2 ≤ length s → IsSplitAt s (get_or s 1 0) function rest
       → r ≡ formed (length_fits (get_or function 0 0) (length function)) (given (set_by (get_or function 0 0) (drop 2 function) t))
-      → functions_of true s t ≡ and_then r (functions_of true rest)
+      → functions_of on s t ≡ and_then r λ u. functions_of on rest (cond on u t)
   functions_on [] function rest r h p e = absurd (omega arith)
   functions_on (tag ∷ []) function rest r h p e = absurd (omega arith)
   functions_on (tag ∷ zero ∷ s) function rest r h p e = rw (functions_turn tag 0 s, e, p.1, unfit tag 0 (omega arith), unfit 0 0 (omega arith)) refl
@@ -89,22 +89,6 @@ module _ (t : Settings) where
   functions_on (tag ∷ suc (suc m) ∷ s) function rest r h p e =
       let k : suc (suc m) - 2 ≡ m = omega arith in
       rw (functions_turn tag (suc (suc m)) s, e, p.3, p.1, p.2, k, le-leb m (length s) (omega arith), formed_on) refl
-
--- the form of a loop is judged alike where its settings do not enter, and then what was set before goes on
-functions_off : (f : ℕ) (s : List ℕ) (t u : Settings) (k : Settings → Reply Settings)
-    → and_then (functions_in f false s t) k ≡ and_then (functions_in f true s u) λ v. k t
-unfolding functions_in
-functions_off zero s t u k = refl
-functions_off (suc f) [] t u k = refl
-functions_off (suc f) (tag ∷ []) t u k = refl
-functions_off (suc f) (tag ∷ n ∷ rest) t u k =
-    simp (formed_on, functions_off f (drop (n - 2) rest) t (set_by tag (take (n - 2) rest) u) k) refl
-
-functions_told : (on : Bool) (s : List ℕ) (t : Settings) (k : Settings → Reply Settings)
-    → and_then (functions_of on s t) k ≡ and_then (functions_of true s t) λ u. k (cond on u t)
-unfolding functions_of
-functions_told true s t k = refl
-functions_told false s t k = functions_off (suc (length s)) s t t k
 
 -- what follows is alike where what is given goes on alike
 then_alike : (x : Reply Settings) (k l : Settings → Reply Settings) → ((a : Settings) → k a ≡ l a) → and_then x k ≡ and_then x l
@@ -151,15 +135,15 @@ module _ (site : ℕ) (t : Settings) where
   entries_over (hi ∷ lo ∷ []) h l = absurd (omega arith)
   entries_over (hi ∷ lo ∷ n ∷ rest) h l = rw (entries_turn hi lo n rest, lt-leb n (length rest) (omega arith)) refl
 
-  -- what the functions of the first entry tell goes on where it is addressed to the site
+  -- what the functions of the first entry give goes on
   pub entries_on : (s entry rest : List ℕ) (r : Reply Settings) → 3 ≤ length s → IsSplitAt (take (length s - 3) (drop 3 s)) (get_or s 2 0) entry rest
-      → r ≡ functions_of true entry t → settings_of s site t ≡ and_then r λ u. settings_of rest site (cond (addressed site (be16_at s 0)) u t)
+      → r ≡ functions_of (addressed site (be16_at s 0)) entry t → settings_of s site t ≡ and_then r λ u. settings_of rest site u
   entries_on [] entry rest r h p e = absurd (omega arith)
   entries_on (hi ∷ []) entry rest r h p e = absurd (omega arith)
   entries_on (hi ∷ lo ∷ []) entry rest r h p e = absurd (omega arith)
   entries_on (hi ∷ lo ∷ n ∷ s) entry rest r h p e =
       let x : IsSplitAt s n entry rest = rw (take_all (length (hi ∷ lo ∷ n ∷ s) - 3) s (omega arith)) at p in
-      rw (entries_turn hi lo n s, le-leb n (length s) x.0, ← x.1, ← x.2, e) (functions_told (addressed site (be16 hi lo)) entry t _)
+      rw (entries_turn hi lo n s, le-leb n (length s) x.0, ← x.1, ← x.2, ← e) refl
 
 pub ruleset functions_turns = (functions_done, functions_cut, functions_over)
 
