@@ -29,7 +29,11 @@ fn put_body(out: &mut [u8], s: Slave)
     wire::put(out, 4, &wire::bytes_16(s.board.site));
     wire::put(out, 6, &wire::bytes_32(s.board.tad));
     wire::put(out, 10, &wire::bytes_16(wire::bits_16(s.settings.od)));
-    wire::put(out, 12, &wire::bytes_32(wire::bits_32(s.settings.frequency)));
+    wire::put(
+        out,
+        12,
+        &wire::bytes_32(wire::bits_32(s.settings.frequency)),
+    );
     wire::put(out, 16, &wire::bytes_16(s.settings.power));
     wire::put(out, 18, &wire::bytes_16(s.count.next));
     wire::put(out, 20, &[s.waiting.pending]);
