@@ -4,7 +4,7 @@ ghost use Rattle.std.specs.Prelude.{◌≡◌, cond, ◌<◌, ◌≤◌, eqb};
 ghost use Rattle.wire.specs.Reply.{refusal_number};
 ghost use Rattle.cadence.specs.Label.{next_label};
 ghost use Rattle.slave.specs.Answer.{option_of, notice_of, mark_of, report_of, untimed, unmarked};
-ghost use Rattle.slave.specs.Step.{raised, place_of, labelled, past, locked_at, mark_at, count_at, kept_at, counted_report, unheard_report, counted, agrees, index_before, index_after, turns, notice_taken, took};
+ghost use Rattle.slave.specs.Step.{raised, place_of, labelled, past, locked_at, mark_at, count_at, kept_at, counted_report, unheard_report, counted, agrees, index_before, index_after, turns, notice_taken, mark_taken, took};
 ghost use Rattle.slave.specs.Ways.{short_of, marked_of, moved_of};
 
 use crate::ready::{Locked, Ready};
@@ -127,40 +127,40 @@ fn turned(before: u8, index: u8) -> bool
     index != UNKNOWN_INDEX && before != UNKNOWN_INDEX && before != index
 }
 
-// A slave's count, and the label that a notice gives its packet.
+// A packet of which a notice is taken, and the label that the notice gives it.
 #[derive(Clone, Copy)]
-struct Heard {
-    count: Count,
+struct Heard<'a> {
+    ready: Ready<'a>,
     label: u16,
 }
 
-impl Heard {
+impl Heard<'_> {
     // Whether a locked slave counted this label.
     fn agrees(self) -> bool
-        ensures { result ≡ agrees self.count self.label }
+        ensures { result ≡ agrees self.entry.ready.slave.now.count self.entry.label }
     {
-        self.count.phase == LOCKED && self.label == self.count.next
+        let c = self.ready.slave.count;
+        c.phase == LOCKED && self.label == c.next
     }
 
-    // The mark on the packet: on agreement the counted one, else label 0 is untimed.
-    fn mark(self, own: MarkPart) -> MarkPart
-        ensures { mark_of result ≡ cond (agrees self.count self.label) (mark_of own) (cond (eqb self.label 0) untimed unmarked) }
+    // On agreement the mark that the slave counted, else label 0 is untimed.
+    #[tactic(auto, unfolding(crate::specs::Step::mark_taken))]
+    fn mark(self) -> MarkPart
+        ensures { mark_of result ≡ mark_taken self.entry.ready.slave.now self.entry.label self.entry.ready.tick }
     {
-        if self.agrees() {
-            return own;
+        match self.ready.locked() {
+            Some(l) if self.agrees() => l.mark(),
+            _ if self.label == 0 => MarkPart::Untimed,
+            _ => MarkPart::Unmarked,
         }
-        if self.label == 0 {
-            return MarkPart::Untimed;
-        }
-        MarkPart::Unmarked
     }
 
     // The index before the notice's own: a slip and the first lock have none.
     fn index_before(self) -> u8
-        ensures { result ≡ index_before self.count self.label }
+        ensures { result ≡ index_before self.entry.ready.slave.now.count self.entry.label }
     {
         if self.agrees() {
-            return count_at(self.count).index;
+            return count_at(self.ready.slave.count).index;
         }
         UNKNOWN_INDEX
     }
@@ -168,9 +168,9 @@ impl Heard {
     // Taken, or a slip where a locked slave counted otherwise.
     #[tactic(auto, unfolding(crate::specs::Step::notice_taken))]
     fn notice(self) -> NoticePart
-        ensures { notice_of result ≡ notice_taken self.count self.label }
+        ensures { notice_of result ≡ notice_taken self.entry.ready.slave.now.count self.entry.label }
     {
-        if self.count.phase == LOCKED && !self.agrees() {
+        if self.ready.slave.count.phase == LOCKED && !self.agrees() {
             return NoticePart::Slip;
         }
         NoticePart::Taken
@@ -227,17 +227,6 @@ impl Locked<'_> {
 }
 
 impl Ready<'_> {
-    // The mark on a packet whose label the slave counted: a hunting slave counts none.
-    #[tactic(auto, unfolding(crate::specs::Step::mark_at))]
-    fn mark(self) -> MarkPart
-        ensures { mark_of result ≡ mark_at self.entry.slave.now self.entry.tick }
-    {
-        match self.locked() {
-            Some(l) => l.mark(),
-            None => MarkPart::Unmarked,
-        }
-    }
-
     // A packet whose notice a number of C ignores: it counts. All three parts are named, though a hunting slave's stay: a way says what stands afterwards.
     #[tactic(auto, using(crate::proofs::Stepping::next_below), unfolding(crate::specs::Step::passed, crate::specs::Step::unheard, crate::specs::Step::counted))]
     pub(crate) fn ignore(self, why: Refusal) -> Moved
@@ -264,7 +253,7 @@ impl Ready<'_> {
     }
 
     // A notice is taken: its label decides, then the notice and its settings enter. Inlined: a notice takes 51 ns so, and 62 ns through memory.
-    #[tactic(auto, unfolding(crate::specs::Step::mark_taken, crate::specs::Step::took))]
+    #[tactic(auto, unfolding(crate::specs::Step::took))]
     #[inline(always)]
     pub(crate) fn take(self, t: Taken) -> Moved
         requires { t.pointer < self.slave.now.board.n }
@@ -272,7 +261,7 @@ impl Ready<'_> {
     {
         let n = self.slave.board.n;
         let heard = Heard {
-            count: self.slave.count,
+            ready: self,
             label: n - 1 - t.pointer,
         };
         let before = heard.index_before();
@@ -293,7 +282,7 @@ impl Ready<'_> {
                 label: Some(heard.label),
                 notice: heard.notice(),
                 turn: turned(before, t.index),
-                mark: heard.mark(self.mark()),
+                mark: heard.mark(),
                 place: place_of(index, heard.label),
             },
         }
