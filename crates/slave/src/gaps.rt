@@ -27,6 +27,7 @@ pub(crate) fn gapped(s: Slave, k: u16) -> Slave
     let next = u32::from(s.count.next);
     let missing = u32::from(k);
     let left = to_mark(n, next);
+    // `as` is proved to lose nothing
     let after = ((next + missing) % n) as u16;
     let (marks, waiting) = if missing <= left {
         (0, s.waiting)
