@@ -8,11 +8,8 @@ use lib.Dec.{eqb, ltb}
 use lib.ListN.{length, drop, get_or, length-append, length-drop}
 use lib.Seq.{get_or-drop, drop-drop, drop_at}
 use lib.Signed.{mag}
-use Rattle.std.specs.Prelude.{ℤ, pos, negsuc}
-use Rattle.std.specs.Int.{w16, w32, cast_unsigned}
 use Rattle.std.proofs.lemmas.Bool.{and_parts, cond_both, eqb-true, ltb-true}
 use Rattle.wire.specs.BigEndian.{be16, be32}
-use Rattle.wire.specs.Signed.{bits16, bits32}
 use Rattle.wire.proofs.Numbers.{spelled16, spelled32, of16, of32, signed_bits, bits_signed}
 use Rattle.wire.proofs.Bytes.{Bytes, no_bytes, and_byte, and_bytes, bytes_16, bytes_32, elements}
 use Rattle.wire.proofs.Puts.{put_fits, put_behind}

@@ -139,7 +139,8 @@ impl Locked<'_> {
         }
     }
 
-    // Its release, in the unit of its profile. A call of its own: marks are rare, and the registers are for the packets between them.
+    // Its release, in the unit of its profile, a number by which the unit is chosen here. A call of its own: marks are rare, and the registers are for the
+    // packets between them.
     #[tactic(auto, using(crate::proofs::Stepping::profile_below), unfolding(crate::specs::Step::release_at))]
     #[inline(never)]
     pub(crate) fn release(self) -> MarkPart
