@@ -5,9 +5,8 @@
  *
  * A call that moves a slave gets it by pointer and leaves the new one in its place; its result is the reply, or a number alone.
  *
- * Each call of the library has a contract that is proved for every value of its arguments, and this text says it in words: there is no number that a call
- * does not answer, it never reads or writes outside what it was lent, and it always returns. Start, numbers notice, gap and resume are three lines of C
- * around such a call: these lines are tested, not proved (WHAT THE CALLS ABOVE ARE MADE OF, at the end). What is up to the caller:
+ * Each call has a contract that is proved for every value of its arguments, and this text says it in words: there is no number that a call does not
+ * answer, it never reads or writes outside what it was lent, and it always returns. What is up to the caller:
  *  - a pointer leads to as many bytes as the length beside it says, and is not null, also where that length is 0; a vikombare_slave pointer leads to one,
  *    and for a start or a resume to room for one, whatever it holds;
  *  - memory that is lent for writing does not overlap what else is lent to the same call;
@@ -48,7 +47,7 @@ extern "C" {
 
 /* The version of this interface. MAJOR rises where a program has to be changed or compiled anew, MINOR where something is added. */
 #define VIKOMBARE_VERSION_MAJOR 1
-#define VIKOMBARE_VERSION_MINOR 0
+#define VIKOMBARE_VERSION_MINOR 1
 
 /* An answer that must not be thrown away: it says what to do, or has the new slave. The compiler warns where one is. */
 #if (defined(__cplusplus) && __cplusplus >= 201703L) || (defined(__STDC_VERSION__) && __STDC_VERSION__ >= 202311L)
@@ -278,8 +277,8 @@ VIKOMBARE_HOLDS(sizeof(vikombare_reading) == 32 && offsetof(vikombare_reading, n
 /* Starts a slave: hunting, nothing pending. What *slave held is overwritten, also where the call refuses, and need not be initialised. n is one of the
  * profile's cadences (profile 0: 2016 * v * r with v = 2, 4 or 6 bits and r = 1/2, 2/3, 3/4, 5/6 or 7/8, such as 10584 for 64-QAM 7/8, the same in 2K and
  * 8K; profile 1: 624), site is 1 to 65535, tad is below a second. Order: 15, which leaves the cold slave, all 0 but for the index, which is 255. */
-VIKOMBARE_KEEP static inline uint8_t vikombare_dvb_start(vikombare_slave *slave, uint16_t n, uint16_t site, vikombare_steps tad);
-VIKOMBARE_KEEP static inline uint8_t vikombare_a110_start(vikombare_slave *slave, uint16_t n, uint16_t site, vikombare_periods tad);
+VIKOMBARE_KEEP uint8_t vikombare_dvb_start(vikombare_slave *slave, uint16_t n, uint16_t site, vikombare_steps tad);
+VIKOMBARE_KEEP uint8_t vikombare_a110_start(vikombare_slave *slave, uint16_t n, uint16_t site, vikombare_periods tad);
 
 /* Takes a packet with its arrival tick, and updates the slave in its own memory. Order: 15 (leaves the cold slave), 1, 2, 3 (each leaves the slave as
  * it was, and the packet does not count). Else the packet counts. In either profile a packet whose error indicator is set has its notice ignored with
@@ -291,12 +290,12 @@ VIKOMBARE_KEEP vikombare_reply vikombare_packet(vikombare_slave *slave, const ui
 /* Takes a packet that comes with a notice in numbers, profile 1, in place of vikombare_packet for this packet. Order: 15 (leaves the cold slave), 1, 2, 3,
  * 20 (each leaves the slave as it was); then 4, 11, 12, 13 ignore the notice, and the packet counts. A slave of profile 0 takes no numbers notice: it
  * answers 3 where the arrival's count is VIKOMBARE_DVB_SECOND or more, else 20. */
-VIKOMBARE_KEEP static inline vikombare_reply vikombare_numbers(vikombare_slave *slave, const uint8_t *packet, size_t length, vikombare_periods arrival,
+VIKOMBARE_KEEP vikombare_reply vikombare_numbers(vikombare_slave *slave, const uint8_t *packet, size_t length, vikombare_periods arrival,
                                                                vikombare_numbers_notice notice);
 
 /* Tells a locked slave that k packets were lost: it counts on, passes the marks among them, and drops a notice whose mark is among them. A hunting slave
  * is unchanged. Order: 15 (leaves the cold slave). */
-VIKOMBARE_KEEP static inline uint8_t vikombare_gap(vikombare_slave *slave, uint16_t k);
+VIKOMBARE_KEEP uint8_t vikombare_gap(vikombare_slave *slave, uint16_t k);
 
 /* Saves the slave, which stays as it is, in the first 38 bytes of out; bytes after them are kept. Order: 15, 18; each keeps every byte of out. */
 VIKOMBARE_KEEP uint8_t vikombare_save(vikombare_slave slave, uint8_t *out, size_t length);
@@ -305,9 +304,9 @@ VIKOMBARE_KEEP uint8_t vikombare_save(vikombare_slave slave, uint8_t *out, size_
  * What *slave held is overwritten, also where the call refuses, and need not be initialised. Order: 15 (leaves the cold slave), 16, 17 (each leaves a
  * fresh hunting slave of these settings). Whatever the bytes are, unless the answer is 15 the slave's profile, n, site and TAD are these, never the
  * block's. A locked slave goes on from the label that was saved: SETTING OUT AND COMING BACK, above, says what has to be told. */
-VIKOMBARE_KEEP static inline uint8_t vikombare_dvb_resume(vikombare_slave *slave, const uint8_t *block, size_t length, uint16_t n, uint16_t site,
+VIKOMBARE_KEEP uint8_t vikombare_dvb_resume(vikombare_slave *slave, const uint8_t *block, size_t length, uint16_t n, uint16_t site,
                                                           vikombare_steps tad);
-VIKOMBARE_KEEP static inline uint8_t vikombare_a110_resume(vikombare_slave *slave, const uint8_t *block, size_t length, uint16_t n, uint16_t site,
+VIKOMBARE_KEEP uint8_t vikombare_a110_resume(vikombare_slave *slave, const uint8_t *block, size_t length, uint16_t n, uint16_t site,
                                                            vikombare_periods tad);
 
 /* Reads a notice of profile 0. Order: 1, 2, 4 to 11. */
@@ -318,9 +317,9 @@ VIKOMBARE_KEEP vikombare_reading vikombare_read(const uint8_t *packet, size_t le
  * every byte of out. The writer knows no n, and writes every pointer as given. */
 VIKOMBARE_KEEP uint8_t vikombare_write(uint8_t *out, size_t out_length, vikombare_notice notice, const uint8_t *addressing, size_t addressing_length);
 
-/* WHAT THE CALLS ABOVE ARE MADE OF
- * The library's own start, numbers notice, gap and resume hand the new slave back, beside the number or the reply. The functions after them store that
- * slave, and nothing else, so that nobody has to think of it. Firmware needs the calls above alone. */
+/* BY VALUE
+ * The same start, numbers notice, gap and resume with the slave handed in and out: the new slave stands beside the number or the reply, and whoever calls
+ * has to keep it. Firmware needs the calls above alone. */
 typedef struct {
     vikombare_slave slave;
     uint8_t number; /* 0, or why it refuses */
@@ -342,49 +341,6 @@ VIKOMBARE_KEEP vikombare_step vikombare_numbers_by_value(vikombare_slave slave, 
 VIKOMBARE_KEEP vikombare_change vikombare_gap_by_value(vikombare_slave slave, uint16_t k);
 VIKOMBARE_KEEP vikombare_change vikombare_dvb_resume_by_value(const uint8_t *block, size_t length, uint16_t n, uint16_t site, vikombare_steps tad);
 VIKOMBARE_KEEP vikombare_change vikombare_a110_resume_by_value(const uint8_t *block, size_t length, uint16_t n, uint16_t site, vikombare_periods tad);
-
-static inline uint8_t vikombare_dvb_start(vikombare_slave *slave, uint16_t n, uint16_t site, vikombare_steps tad)
-{
-    vikombare_change change = vikombare_dvb_start_by_value(n, site, tad);
-    *slave = change.slave;
-    return change.number;
-}
-
-static inline uint8_t vikombare_a110_start(vikombare_slave *slave, uint16_t n, uint16_t site, vikombare_periods tad)
-{
-    vikombare_change change = vikombare_a110_start_by_value(n, site, tad);
-    *slave = change.slave;
-    return change.number;
-}
-
-static inline vikombare_reply vikombare_numbers(vikombare_slave *slave, const uint8_t *packet, size_t length, vikombare_periods arrival,
-                                                vikombare_numbers_notice notice)
-{
-    vikombare_step step = vikombare_numbers_by_value(*slave, packet, length, arrival, notice);
-    *slave = step.slave;
-    return step.reply;
-}
-
-static inline uint8_t vikombare_gap(vikombare_slave *slave, uint16_t k)
-{
-    vikombare_change change = vikombare_gap_by_value(*slave, k);
-    *slave = change.slave;
-    return change.number;
-}
-
-static inline uint8_t vikombare_dvb_resume(vikombare_slave *slave, const uint8_t *block, size_t length, uint16_t n, uint16_t site, vikombare_steps tad)
-{
-    vikombare_change change = vikombare_dvb_resume_by_value(block, length, n, site, tad);
-    *slave = change.slave;
-    return change.number;
-}
-
-static inline uint8_t vikombare_a110_resume(vikombare_slave *slave, const uint8_t *block, size_t length, uint16_t n, uint16_t site, vikombare_periods tad)
-{
-    vikombare_change change = vikombare_a110_resume_by_value(block, length, n, site, tad);
-    *slave = change.slave;
-    return change.number;
-}
 
 #ifdef __cplusplus
 }

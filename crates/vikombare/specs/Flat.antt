@@ -5,6 +5,7 @@ use Rattle.times.specs.declared.Steps.{Steps}
 use Rattle.times.specs.declared.Periods.{Periods}
 use Rattle.notice.specs.declared.Notice as Mip
 use Rattle.state.specs.declared.Board.{Board}
+use Rattle.state.specs.declared.Slave.{Slave}
 use Rattle.slave.specs.Answer.{Result}
 use Rattle.vikombare.specs.declared.Tick.{Tick}
 use Rattle.vikombare.specs.declared.Change.{Change}
@@ -26,8 +27,11 @@ abbrev pub a110_board : ℕ → ℕ → Periods → Board
 a110_board n site tad = record { profile = 1; n = n; site = site; tad = tad.0 }
 
 -- what a start, a gap or a resume leaves, with the number of its reply
+abbrev pub changed : Slave → ℕ → Change
+changed s k = record { slave = s; number = k }
+
 abbrev pub flat_change : Result (Unit {0}) → Change
-flat_change r = record { slave = r.slave; number = number_of r.reply }
+flat_change r = changed r.slave (number_of r.reply)
 
 -- what a save or a write leaves: its number, and the bytes of the buffer
 pub record Filled : Type 0 where

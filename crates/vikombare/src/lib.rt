@@ -1,6 +1,6 @@
-// The calls that a board's firmware links, for C: a slave's start, packets in place, numbers notices and gaps, its saved block, and notices read and
-// written. include/vikombare.h is their header, which stores the slaves that are handed back by value. No call has a condition on its numbers: bad
-// input gets its number of document 01's table.
+// The calls that a board's firmware links, for C: a slave's start, packets, numbers notices and gaps, its saved block, and notices read and written. Each
+// call that moves a slave is lent it; those that have another form hand it back by value there. include/vikombare.h is their header. No call has a
+// condition on its numbers: bad input gets its number of document 01's table.
 #![tactic(auto)]
 
 ghost use Rattle.std.specs.Prelude.{◌≡◌, length};
@@ -11,7 +11,7 @@ ghost use Rattle.slave.specs.Answer.{shifted_of};
 ghost use Rattle.slave.specs.Calls.{start_of, packet_of, numbers_of, gap_of};
 ghost use Rattle.saved.specs.Block.{save_of, resume_of};
 ghost use Rattle.replies.specs.Flat.{flat_left, flat_step};
-ghost use Rattle.vikombare.specs.Flat.{tick_on, flat_change, dvb_board, a110_board, filled_with, flat_output, flat_notice};
+ghost use Rattle.vikombare.specs.Flat.{tick_on, changed, flat_change, dvb_board, a110_board, filled_with, flat_output, flat_notice};
 
 use judging::Numbers;
 use notice::Notice;
@@ -58,6 +58,14 @@ impl From<Left<()>> for Change {
     }
 }
 
+// Stores the slave of a start, a gap or a resume, and replies its number.
+fn store(s: &mut Slave, x: Left<()>) -> u8
+    ensures { changed s.new result ≡ flat_change (shifted_of x) }
+{
+    *s = x.slave;
+    replies::outcome_number(x.reply)
+}
+
 // The settings of a board whose TAD is in this unit.
 fn board<T: Unit>(n: u16, site: u16, tad: T) -> Board
     ensures { result ≡ record { profile = T.PROFILE; n = n; site = site; tad = T.count tad } }
@@ -70,7 +78,23 @@ fn board<T: Unit>(n: u16, site: u16, tad: T) -> Board
     }
 }
 
-// Starts a slave of profile 0.
+// Starts a slave of profile 0 in the lent memory, whatever it held.
+#[unsafe(no_mangle)]
+pub extern "C" fn vikombare_dvb_start(s: &mut Slave, n: u16, site: u16, tad: Steps) -> u8
+    ensures { changed s.new result ≡ flat_change (start_of (dvb_board n site tad)) }
+{
+    store(s, slave::start(board(n, site, tad)))
+}
+
+// Starts a slave of profile 1 so.
+#[unsafe(no_mangle)]
+pub extern "C" fn vikombare_a110_start(s: &mut Slave, n: u16, site: u16, tad: Periods) -> u8
+    ensures { changed s.new result ≡ flat_change (start_of (a110_board n site tad)) }
+{
+    store(s, slave::start(board(n, site, tad)))
+}
+
+// Starts a slave of profile 0, and hands it out.
 #[unsafe(no_mangle)]
 pub extern "C" fn vikombare_dvb_start_by_value(n: u16, site: u16, tad: Steps) -> Change
     ensures { result ≡ flat_change (start_of (dvb_board n site tad)) }
@@ -78,7 +102,7 @@ pub extern "C" fn vikombare_dvb_start_by_value(n: u16, site: u16, tad: Steps) ->
     slave::start(board(n, site, tad)).into()
 }
 
-// Starts a slave of profile 1.
+// Starts a slave of profile 1, and hands it out.
 #[unsafe(no_mangle)]
 pub extern "C" fn vikombare_a110_start_by_value(n: u16, site: u16, tad: Periods) -> Change
     ensures { result ≡ flat_change (start_of (a110_board n site tad)) }
@@ -133,7 +157,20 @@ pub extern "C" fn vikombare_packet(s: &mut Slave, p: &[u8], tick: Tick) -> Packe
     }
 }
 
-// A packet that comes with a notice in numbers, profile 1. The slave is handed back.
+// A packet that comes with a notice in numbers, profile 1.
+#[unsafe(no_mangle)]
+pub extern "C" fn vikombare_numbers(
+    s: &mut Slave,
+    p: &[u8],
+    tick: Periods,
+    x: Numbers,
+) -> PacketReply
+    ensures { flat_left s.new result ≡ flat_step (numbers_of s.old p.now tick.0 x) }
+{
+    slave::numbers_notice(s, p, tick.0, x)
+}
+
+// The same of a slave that is handed in and back.
 #[unsafe(no_mangle)]
 pub extern "C" fn vikombare_numbers_by_value(s: Slave, p: &[u8], tick: Periods, x: Numbers) -> Step
     ensures { result ≡ flat_step (numbers_of s p.now tick.0 x) }
@@ -142,6 +179,15 @@ pub extern "C" fn vikombare_numbers_by_value(s: Slave, p: &[u8], tick: Periods, 
 }
 
 // A gap of k packets.
+#[unsafe(no_mangle)]
+pub extern "C" fn vikombare_gap(s: &mut Slave, k: u16) -> u8
+    ensures { changed s.new result ≡ flat_change (gap_of s.old k) }
+{
+    let x = slave::gap(*s, k);
+    store(s, x)
+}
+
+// The same of a slave that is handed in and back.
 #[unsafe(no_mangle)]
 pub extern "C" fn vikombare_gap_by_value(s: Slave, k: u16) -> Change
     ensures { result ≡ flat_change (gap_of s k) }
@@ -157,7 +203,35 @@ pub extern "C" fn vikombare_save(s: Slave, out: &mut [u8]) -> u8
     replies::outcome_number(saved::save(s, out))
 }
 
-// Resumes a saved slave on a board of profile 0.
+// Resumes a saved slave on a board of profile 0 in the lent memory, whatever it held.
+#[unsafe(no_mangle)]
+pub extern "C" fn vikombare_dvb_resume(
+    s: &mut Slave,
+    block: &[u8],
+    n: u16,
+    site: u16,
+    tad: Steps,
+) -> u8
+    ensures { changed s.new result ≡ flat_change (resume_of block.now (dvb_board n site tad)) }
+{
+    store(s, saved::resume(block, board(n, site, tad)))
+}
+
+// Resumes a saved slave on a board of profile 1 so.
+#[unsafe(no_mangle)]
+pub extern "C" fn vikombare_a110_resume(
+    s: &mut Slave,
+    block: &[u8],
+    n: u16,
+    site: u16,
+    tad: Periods,
+) -> u8
+    ensures { changed s.new result ≡ flat_change (resume_of block.now (a110_board n site tad)) }
+{
+    store(s, saved::resume(block, board(n, site, tad)))
+}
+
+// Resumes a saved slave on a board of profile 0, and hands it out.
 #[unsafe(no_mangle)]
 pub extern "C" fn vikombare_dvb_resume_by_value(
     block: &[u8],
@@ -170,7 +244,7 @@ pub extern "C" fn vikombare_dvb_resume_by_value(
     saved::resume(block, board(n, site, tad)).into()
 }
 
-// Resumes a saved slave on a board of profile 1.
+// Resumes a saved slave on a board of profile 1, and hands it out.
 #[unsafe(no_mangle)]
 pub extern "C" fn vikombare_a110_resume_by_value(
     block: &[u8],
