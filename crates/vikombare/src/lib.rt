@@ -172,10 +172,16 @@ pub extern "C" fn vikombare_numbers(
 
 // The same of a slave that is handed in and back.
 #[unsafe(no_mangle)]
-pub extern "C" fn vikombare_numbers_by_value(s: Slave, p: &[u8], tick: Periods, x: Numbers) -> Step
+pub extern "C" fn vikombare_numbers_by_value(
+    mut s: Slave,
+    p: &[u8],
+    tick: Periods,
+    x: Numbers,
+) -> Step
     ensures { result ≡ flat_step (numbers_of s p.now tick.0 x) }
 {
-    by_value::numbers_step(s, p, tick.0, x)
+    let reply = vikombare_numbers(&mut s, p, tick, x);
+    Step { slave: s, reply }
 }
 
 // A gap of k packets.
