@@ -1,5 +1,5 @@
 -- What a packet changes of a slave, so that a call stores or hands back just that. The calls' contracts do not cite it but for `way_of` and
--- `numbers_way`: what they leave and reply is `packet_of` and `numbers_of`.
+-- `numbers_way`: what a way leaves and replies is `packet_of` and `numbers_of`.
 use Rattle.std.specs.Prelude as std
 use Rattle.std.specs.Prelude.{Ok, Err, cond, eqb}
 use Rattle.wire.specs.declared.Refusal.{Refusal}
@@ -33,17 +33,9 @@ moved_of s m = left (moved_to s m.settings m.count m.waiting) (given (report_of 
 abbrev pub left_by : Slave → Refusal → Slave
 left_by s r = cond (eqb (refusal_number r) 15) cold s
 
-abbrev pub refused_by : Slave → Refusal → Result Report
-refused_by s r = left (left_by s r) (refused (refusal_number r))
-
 abbrev pub way_of : Slave → std.Result Way Refusal → Result Report
 way_of s (Ok way.Hunts) = left s (given (unheard_report absent))
 way_of s (Ok (way.Short q)) = short_of s q
 way_of s (Ok (way.Marked m)) = marked_of s m
 way_of s (Ok (way.Moved m)) = moved_of s m
-way_of s (Err r) = refused_by s r
-
--- a numbers notice that is not refused is taken or ignored, and has no other way
-abbrev pub numbers_way_of : Slave → std.Result Moved Refusal → Result Report
-numbers_way_of s (Ok m) = moved_of s m
-numbers_way_of s (Err r) = refused_by s r
+way_of s (Err r) = left (left_by s r) (refused (refusal_number r))

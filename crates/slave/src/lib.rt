@@ -9,7 +9,7 @@ ghost use Rattle.slave.specs.Answer.{Report, Leaves, left, report_of, answer_of,
 ghost use Rattle.slave.specs.Calls.{start_of, packet_of, numbers_of, gap_of};
 ghost use Rattle.judging.specs.Judge.{judge_arrived, judge_given};
 ghost use Rattle.slave.specs.Step.{step_of};
-ghost use Rattle.slave.specs.Ways.{moved_of, refused_by, way_of, numbers_way_of};
+ghost use Rattle.slave.specs.Ways.{way_of, left_by};
 
 use addressing::Settings;
 use judging::Numbers;
@@ -155,15 +155,17 @@ fn arrived(r: Ready<'_>, p: &[u8]) -> Way
     }
 }
 
-// A numbers notice whose packet arrived right, on a sound slave: it is taken or ignored, and either may change all that a packet may.
+// A numbers notice whose packet arrived right, on a sound slave.
 #[tactic(auto, using(judging::proofs::Judging::given_limits), unfolding(crate::specs::Step::step_of))]
-fn given(r: Ready<'_>, p: &[u8], x: Numbers) -> Moved
-    ensures { moved_of r.entry.slave.now result ≡ step_of r.entry.slave.now (judge_given r.entry.slave.now.board r.entry.slave.now.settings p.now x) r.entry.tick }
+fn given(r: Ready<'_>, p: &[u8], x: Numbers) -> Way
+    ensures { way_of r.entry.slave.now (Ok result) ≡ step_of r.entry.slave.now (judge_given r.entry.slave.now.board r.entry.slave.now.settings p.now x) r.entry.tick }
 {
-    match judging::judge_given(r.slave.board, r.slave.settings, p, x) {
-        Ok(t) => r.take(t),
-        Err(k) => r.ignore(k),
-    }
+    Way::Moved(
+        match judging::judge_given(r.slave.board, r.slave.settings, p, x) {
+            Ok(t) => r.take(t),
+            Err(k) => r.ignore(k),
+        },
+    )
 }
 
 // What a packet with its arrival tick does. Each thing is judged once, in document 01's order: 15, then 1 to 3, then 4 and 6 to 13. Here and below packets
@@ -178,8 +180,8 @@ pub fn way_of(s: &Slave, p: &[u8], tick: u32) -> Result<Way, Refusal>
 
 // What a numbers notice with its packet and arrival tick does: 15, then 1 to 3, 20, 4 and 11 to 13.
 #[tactic(auto, unfolding(crate::specs::Calls::numbers_of))]
-pub fn numbers_way(s: &Slave, p: &[u8], tick: u32, x: Numbers) -> Result<Moved, Refusal>
-    ensures { numbers_way_of s.now result ≡ numbers_of s.now p.now tick x }
+pub fn numbers_way(s: &Slave, p: &[u8], tick: u32, x: Numbers) -> Result<Way, Refusal>
+    ensures { way_of s.now result ≡ numbers_of s.now p.now tick x }
 {
     let r = Ready::new(s, p, tick)?;
     if s.board.profile == Steps::PROFILE {
@@ -188,32 +190,8 @@ pub fn numbers_way(s: &Slave, p: &[u8], tick: u32, x: Numbers) -> Result<Moved, 
     Ok(given(r, p, x))
 }
 
-// All that a packet may change, stored in the slave, and the reply.
-#[inline(always)]
-fn apply_moved<A: Answer>(s: &mut Slave, m: Moved) -> A
-    ensures { Leaves A.says s.new result (moved_of s.old m) }
-{
-    s.settings = m.settings;
-    s.count = m.count;
-    s.waiting = m.waiting;
-    A::counted(m.report)
-}
-
-// A refusal leaves the slave, and 15 the cold one.
-#[inline(always)]
-fn refuse<A: Answer>(s: &mut Slave, r: Refusal) -> A
-    ensures { Leaves A.says s.new result (refused_by s.old r) }
-{
-    match r {
-        Refusal::StartSettings => {
-            *s = state::cold_slave();
-            A::refused(Refusal::StartSettings)
-        }
-        r => A::refused(r),
-    }
-}
-
-// What a packet does to a slave, stored in it, and its reply. Each arm makes its own reply: one made after them of what they give would go through memory.
+// What a call with a packet does to a slave, stored in it, and its reply. Each arm makes its own reply: one made after them of what they give would go
+// through memory.
 #[inline(always)]
 fn apply<A: Answer>(s: &mut Slave, way: Result<Way, Refusal>) -> A
     ensures { Leaves A.says s.new result (way_of s.old way) }
@@ -229,8 +207,17 @@ fn apply<A: Answer>(s: &mut Slave, way: Result<Way, Refusal>) -> A
             s.waiting = state::nothing_waiting();
             return A::counted(m.report);
         }
-        Ok(Way::Moved(m)) => return apply_moved(s, m),
-        Err(r) => return refuse(s, r),
+        Ok(Way::Moved(m)) => {
+            s.settings = m.settings;
+            s.count = m.count;
+            s.waiting = m.waiting;
+            return A::counted(m.report);
+        }
+        Err(Refusal::StartSettings) => {
+            *s = state::cold_slave();
+            return A::refused(Refusal::StartSettings);
+        }
+        Err(r) => return A::refused(r),
     }
 }
 
@@ -248,10 +235,8 @@ pub fn packet<A: Answer>(s: &mut Slave, p: &[u8], tick: u32) -> A
 pub fn numbers_notice<A: Answer>(s: &mut Slave, p: &[u8], tick: u32, x: Numbers) -> A
     ensures { Leaves A.says s.new result (numbers_of s.old p.now tick x) }
 {
-    match numbers_way(s, p, tick, x) {
-        Ok(m) => apply_moved(s, m),
-        Err(r) => refuse(s, r),
-    }
+    let way = numbers_way(s, p, tick, x);
+    apply(s, way)
 }
 
 // k packets are known to be missing.
