@@ -137,6 +137,9 @@ pub fn pointer_of(n: u16, label: u16) -> Result<u16, Refusal>
     label_of(n, label)
 }
 
+// The marks of an M/H frame, whose indexes are below it.
+pub const FRAME_MARKS: u8 = 20;
+
 // The M/H place of the packet p after mark i.
 pub fn mobile_place(i: u8, p: u16) -> u16
     ensures { result ≡ mobile_place i p }

@@ -100,7 +100,7 @@ fn eight_in(w: u64) -> u32
     sum
 }
 
-// The register z after the byte b.
+// The register z after the byte b. Not by eight_in, which enters eight bytes into a register of zeros.
 fn byte_in(z: u32, b: u8) -> u32
     ensures { result ≡ bits_in 8 z b }
 {

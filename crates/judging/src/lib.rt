@@ -8,6 +8,7 @@ ghost use Rattle.judging.specs.Judgement.{judgement_of, taken_of};
 ghost use Rattle.judging.specs.Judge.{arrival_refusal, carries, taken_refusal, limited, mip_taken, judge_mip, judge_arrived, judge_given};
 
 use addressing::Settings;
+use cadence::FRAME_MARKS;
 use state::{Board, UNKNOWN_INDEX};
 use times::{Periods, Steps, Unit};
 use wire::Refusal;
@@ -62,7 +63,7 @@ fn carries(profile: u8, p: &[u8]) -> bool
 fn index_allowed(index: u8) -> bool
     ensures { result ≡ (eqb index 255 || ltb index 20) }
 {
-    index == UNKNOWN_INDEX || index < 20
+    index == UNKNOWN_INDEX || index < FRAME_MARKS
 }
 
 // 11, 12 and 13, of a notice that is otherwise right.
@@ -70,16 +71,10 @@ fn index_allowed(index: u8) -> bool
 fn check_taken(b: Board, t: Taken) -> Result<(), Refusal>
     ensures { reply_of result ≡ reply (taken_refusal b t) tt }
 {
-    if !state::in_second(b.profile, t.sts) {
+    if !state::in_second(b.profile, t.sts) || !state::in_second(b.profile, t.md) {
         return Err(Refusal::Times);
     }
-    if !state::in_second(b.profile, t.md) {
-        return Err(Refusal::Times);
-    }
-    if t.pointer >= b.n {
-        return Err(Refusal::PointerOrIndex);
-    }
-    if !index_allowed(t.index) {
+    if t.pointer >= b.n || !index_allowed(t.index) {
         return Err(Refusal::PointerOrIndex);
     }
     if !state::delay_kept(b, t.md, t.settings.od) {

@@ -21,7 +21,7 @@ use state::Slave;
 use times::{Periods, Steps, Unit};
 
 // C has no Result: the number that refuses, or 0, stands beside the value, and a call below puts either there arm by arm. A From for each of the two, which
-// have one caller, would say the same in more lines.
+// have one caller, would say the same in more lines. The settings' parts stand apart, as the comparison program has them.
 #[repr(C)]
 #[derive(Clone, Copy, Default)]
 pub struct ProbeSettings {
@@ -74,6 +74,7 @@ pub extern "C" fn probe_settings(
     }
 }
 
+// Two names: what C calls can have no type parameter.
 #[unsafe(no_mangle)]
 pub extern "C" fn probe_dvb_delay_fits(md: u32, od: i16) -> bool
     ensures { result ≡ delay_fits dvb_second md od }
@@ -115,7 +116,7 @@ pub extern "C" fn probe_mobile_place(i: u8, p: u16) -> u16
     cadence::mobile_place(i, p)
 }
 
-// A packet by value; its answer is a numbers notice's.
+// A packet by value, answered in the form that a numbers notice has.
 #[unsafe(no_mangle)]
 pub extern "C" fn probe_packet(s: Slave, p: &[u8], tick: u32) -> Step
     ensures { result ≡ flat_step (packet_of s p.now tick) }

@@ -105,7 +105,7 @@ impl From<MarkPart> for Mark {
     }
 }
 
-// The notice's part as C has it: its kind, and the number that ignores it. No From: a byte says neither which of the two it is.
+// The notice's part as C has it: its kind, and the number that ignores it. No From: a byte does not say which of the two it is.
 fn notice_kind(n: NoticePart) -> u8
     ensures { result ≡ notice_kind (notice_of n) }
 {

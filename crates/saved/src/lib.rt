@@ -57,11 +57,11 @@ pub fn save(s: Slave, out: &mut [u8]) -> Result<(), Refusal>
     wire::put(out, BODY_LENGTH, &wire::bytes_16(s.board.site));
     // `as` is proved to lose nothing
     wire::put(out, BODY_LENGTH + 2, &wire::bytes_16(BODY_LENGTH as u16));
-    check_value::seal(out, BLOCK_LENGTH - 4);
+    check_value::seal(out, BLOCK_LENGTH - wire::CHECK_LENGTH);
     Ok(())
 }
 
-// The slave whose body these bytes begin with.
+// The slave whose body these bytes begin with. The places are document 01's, as in put_body.
 #[tactic(auto, unfolding(crate::specs::Layout::slave_in))]
 fn slave_in(b: &[u8]) -> Slave
     ensures { result ≡ slave_in b.now }

@@ -138,7 +138,7 @@ fn cold() -> Left<()>
     }
 }
 
-// A packet that arrived right, on a sound slave: what was judged decides which step is gone, and each is one method. Packets and numbers notices have a
+// A packet that arrived right, on a sound slave: what was judged decides which step is taken, and each is one method. Packets and numbers notices have a
 // function each, of one caller, so that the compiler keeps the steps of either out of memory.
 #[tactic(auto, using(judging::proofs::Judging::arrived_limits), unfolding(crate::specs::Step::step_of, crate::specs::Step::counted, crate::specs::Step::unheard))]
 fn arrived(r: Ready<'_>, p: &[u8]) -> Way

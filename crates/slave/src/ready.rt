@@ -18,7 +18,7 @@ pub(crate) struct Ready<'a> {
     pub(crate) ghost is_in_second: { in_second (second slave.now.board.profile) tick ≡ true },
 }
 
-// A Ready whose slave is locked: it counts labels, so the steps that move its label and release its marks are methods of this.
+// A Ready whose slave is locked: it counts labels, so the steps of packets without a notice, and the mark, are methods of this.
 #[derive(Clone, Copy)]
 pub(crate) struct Locked<'a> {
     pub(crate) ready: Ready<'a>,

@@ -44,12 +44,12 @@ impl Arrival {
         wrapped(self.u, self.sts + self.md)
     }
 
-    // The emission time. `as` here and below is proved to lose nothing; of i64::from the sum's proof does not close (tried).
+    // The emission time. `as` is proved to lose nothing.
     #[tactic(auto, unfolding(times::specs::Release::delay_fits, times::specs::Whole::within))]
     fn emission(self) -> u32
         ensures { result ≡ emission self.u self.sts self.md self.od }
     {
-        let sum = (self.md as i64 + self.od as i64) as u32;
+        let sum = times::delay(self.md, self.od) as u32;
         wrapped(self.u, self.sts + sum)
     }
 
@@ -81,7 +81,7 @@ impl Arrival {
     fn wait(self) -> i64
         ensures { result ≡ wait self.md self.od self.tad (link_delay self.u self.tick self.sts) }
     {
-        self.md as i64 + self.od as i64 - self.tad as i64 - self.link_delay() as i64
+        times::delay(self.md, self.od) - i64::from(self.tad) - i64::from(self.link_delay())
     }
 
     // The times, in plain numbers.
@@ -105,7 +105,7 @@ impl Arrival {
         if times.wait < 0 {
             return None;
         }
-        Some(times.in_unit())
+        Some(times.into())
     }
 }
 

@@ -9,6 +9,7 @@ ghost use Rattle.slave.specs.Ways.{short_of, marked_of, moved_of};
 
 use crate::ready::{Locked, Ready};
 use crate::{Counted, MarkPart, Marked, Moved, NoticePart, Short};
+use cadence::FRAME_MARKS;
 use judging::Taken;
 use state::{Count, LOCKED, PENDING, Slave, UNKNOWN_INDEX, Waiting};
 use wire::Refusal;
@@ -22,7 +23,7 @@ fn raised(index: u8, marks: u32) -> u8
         return UNKNOWN_INDEX;
     }
     // proved to lose nothing
-    ((u32::from(index) + marks) % 20) as u8
+    ((u32::from(index) + marks) % u32::from(FRAME_MARKS)) as u8
 }
 
 // The count with another label.
@@ -60,7 +61,8 @@ fn place_of(index: u8, label: u16) -> Option<u16>
         return None;
     }
     // `as` is proved to lose nothing
-    let mark = (u16::from(index) + 19) % 20;
+    let marks = u16::from(FRAME_MARKS);
+    let mark = (u16::from(index) + marks - 1) % marks;
     Some(cadence::mobile_place(mark as u8, label))
 }
 
@@ -262,6 +264,7 @@ impl Ready<'_> {
         let n = self.slave.board.n;
         let heard = Heard {
             ready: self,
+            // not by cadence::label_of, which would refuse what cannot come here
             label: n - 1 - t.pointer,
         };
         let before = heard.index_before();

@@ -10,6 +10,7 @@ ghost use Rattle.state.specs.Slave.{nothing, uncounted, cold, hunting};
 ghost use Rattle.state.specs.Sound.{frequency_fits, index_fits, waiting_fits, locked_fits, parts_fit, sound};
 
 use addressing::Settings;
+use cadence::FRAME_MARKS;
 use times::{Periods, Steps, Unit};
 
 // The settings of a start. TAD is in the profile's own unit. The profile is a number, since C lends a slave with any byte there.
@@ -24,6 +25,8 @@ pub struct Board {
 
 // The numbers of a slave's phase and of a waiting notice, and the index of a mark that is not known. They are bytes that C lends: no enum and no Option
 // can stand for them.
+pub const COLD: u8 = 0;
+
 pub const HUNTING: u8 = 1;
 
 pub const LOCKED: u8 = 2;
@@ -61,7 +64,7 @@ pub struct Slave {
     pub waiting: Waiting,
 }
 
-// Nothing waits.
+// Nothing waits. A name beside the derived default, as addressing::no_settings is.
 pub fn nothing_waiting() -> Waiting
     ensures { result ≡ nothing }
 {
@@ -95,7 +98,7 @@ fn untold(board: Board, phase: u8) -> Slave
 pub fn cold_slave() -> Slave
     ensures { result ≡ cold }
 {
-    untold(Board::default(), 0)
+    untold(Board::default(), COLD)
 }
 
 // A hunting slave.
@@ -152,7 +155,7 @@ fn frequency_fits(z: i32) -> bool
 fn index_fits(profile: u8, index: u8) -> bool
     ensures { result ≡ index_fits profile index }
 {
-    index == UNKNOWN_INDEX || (profile == Periods::PROFILE && index < 20)
+    index == UNKNOWN_INDEX || (profile == Periods::PROFILE && index < FRAME_MARKS)
 }
 
 // Nothing, or a pending notice that is in range and satisfies 13.

@@ -42,8 +42,8 @@ pub const SITE_ROOM: usize = SITE_WORD.len() + MOST_DIGITS + CADENCE_WORD.len() 
 
 pub const END_ROOM: usize = END_WORD.len() + NUMBER_ROOM;
 
-// A lent buffer, and the byte that the next text begins at. Each method says that the page keeps its buffer (`same`), since a caller has lent it and reads
-// it afterwards, and the private ones ask for room: no fact of every page, for a page may be full.
+// A lent buffer, and the byte that the next text begins at. Each method that puts something says that the page keeps its buffer (`same`), since a caller has
+// lent it and reads it afterwards, and the private ones ask for room: no fact of every page, for a page may be full.
 #[derive(Drop)]
 pub struct Page<'a> {
     pub out: &'a mut [u8],
@@ -157,7 +157,7 @@ impl Page<'_> {
         self.byte(b'\n');
     }
 
-    // A refusal's number at the end of a line: a number, and not a Refusal, so that a caller may have any.
+    // A refusal's number at the end of a line: any number, as the definition has it; a Refusal would allow less.
     fn refused(&mut self, k: u8)
         requires { self.old.at + refusal_room ≤ length self.old.out.now }
         ensures same { self.new.out.ghost_name ≡ self.old.out.ghost_name }

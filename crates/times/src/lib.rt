@@ -22,6 +22,7 @@ pub trait Unit: Copy {
 
     const SECOND: u32;
 
+    // Not by From: what each gives is said by the trait's count.
     fn of(units: u32) -> Self
         ensures { count result ≡ units };
 
@@ -108,7 +109,7 @@ impl Unit for Periods {
 }
 
 // MD + OD.
-fn delay(md: u32, od: i16) -> i64
+pub fn delay(md: u32, od: i16) -> i64
     ensures { result ≡ pos md +ℤ od }
 {
     i64::from(md) + i64::from(od)
@@ -123,16 +124,16 @@ pub struct Times<T> {
     pub wait: i64,
 }
 
-impl Times<u32> {
-    // The same numbers, in the unit T.
-    pub fn in_unit<T: Unit>(self) -> Times<T>
-        ensures { times_in T.count result ≡ times_in number self }
-    {
+// The same numbers, in the unit T.
+impl<T: Unit> From<Times<u32>> for Times<T> {
+    ghost from_gives = { λ t r. times_in T.count r ≡ times_in number t };
+
+    fn from(t: Times<u32>) -> Times<T> {
         Times {
-            reference: T::of(self.reference),
-            emission: T::of(self.emission),
-            modulation: T::of(self.modulation),
-            wait: self.wait,
+            reference: T::of(t.reference),
+            emission: T::of(t.emission),
+            modulation: T::of(t.modulation),
+            wait: t.wait,
         }
     }
 }

@@ -1,6 +1,7 @@
 // The calls that a board's firmware links, for C: a slave's start, packets, numbers notices and gaps, its saved block, and notices read and written. Each
 // call that moves a slave is lent it; those that have another form hand it back by value there. include/vikombare.h is their header. No call has a
-// condition on its numbers: bad input gets its number of document 01's table.
+// condition on its numbers: bad input gets its number of document 01's table. C has no Option, no Result and no enum with values: a number stands beside
+// what it says.
 #![tactic(auto)]
 
 ghost use Rattle.std.specs.Prelude.{◌≡◌, length};
@@ -21,7 +22,7 @@ use state::{Board, Slave};
 use times::{Periods, Steps, Unit};
 use wire::Refusal;
 
-// An arrival tick with its clock: profile 0 counts steps of 100 ns, profile 1 bit periods.
+// An arrival tick with its clock: profile 0 counts steps of 100 ns, profile 1 bit periods. The profile is a number, since C hands in any byte.
 #[repr(C)]
 #[derive(Clone, Copy)]
 pub struct Tick {
@@ -66,7 +67,8 @@ fn store(s: &mut Slave, x: Left<()>) -> u8
     replies::outcome_number(x.reply)
 }
 
-// The settings of a board whose TAD is in this unit.
+// The settings of a board whose TAD is in this unit. The calls that make one are names that C links, which can have no type parameter; their parameters
+// are C's.
 fn board<T: Unit>(n: u16, site: u16, tad: T) -> Board
     ensures { result ≡ record { profile = T.PROFILE; n = n; site = site; tad = T.count tad } }
 {
@@ -122,7 +124,7 @@ fn tick_on(profile: u8, tick: Tick) -> u32
 }
 
 // A packet with its arrival tick; of the lent slave, just what changes is stored. A tick of the other clock is none of the slave's (3). It matches the way
-// itself, and each arm returns: a plain packet takes 17 ns so, and 24 ns by `slave::packet`, whose answer has one way out.
+// itself, and each arm returns: a plain packet takes 17 ns so, and 24 ns by `slave::packet`, whose answers the compiler joins.
 #[unsafe(no_mangle)]
 pub extern "C" fn vikombare_packet(s: &mut Slave, p: &[u8], tick: Tick) -> PacketReply
     ensures { flat_left s.new result ≡ flat_step (packet_of s.old p.now (tick_on s.old.board.profile tick)) }

@@ -73,7 +73,7 @@ fn bytes_at<const N: usize>(b: &[u8], i: usize) -> [u8; N]
     array::from_fn(|k| byte_at(rest, k))
 }
 
-// The number that two bytes spell, the first of them byte i. A name for each size: each answers in its own type, and the third has no type of its size.
+// The number that two bytes spell, the first of them byte i. A name for each size: each answers in its own type, and 24 bits have no type of their own.
 pub fn number16_at(b: &[u8], i: usize) -> u16
     ensures { result ≡ be16_at b.now i }
 {
@@ -125,7 +125,7 @@ pub fn signed_16(v: u16) -> i16
     u16::cast_signed(v)
 }
 
-// The signed number that 24 bits mean; -1 beyond them. `as` is proved to lose nothing.
+// The signed number that 24 bits mean; -1 beyond them. No type has 24 bits, so the library has no cast for them; `as` is proved to lose nothing.
 pub fn signed_24(v: u32) -> i32
     ensures { result ≡ signed24 v }
 {
