@@ -33,9 +33,12 @@ moved_of s m = left (moved_to s m.settings m.count m.waiting) (given (report_of 
 abbrev pub left_by : Slave → Refusal → Slave
 left_by s r = cond (eqb (refusal_number r) 15) cold s
 
+abbrev pub refused_by : Slave → Refusal → Result Report
+refused_by s r = left (left_by s r) (refused (refusal_number r))
+
 abbrev pub way_of : Slave → std.Result Way Refusal → Result Report
 way_of s (Ok way.Hunts) = left s (given (unheard_report absent))
 way_of s (Ok (way.Short q)) = short_of s q
 way_of s (Ok (way.Marked m)) = marked_of s m
 way_of s (Ok (way.Moved m)) = moved_of s m
-way_of s (Err r) = left (left_by s r) (refused (refusal_number r))
+way_of s (Err r) = refused_by s r
