@@ -3,6 +3,7 @@
 
 use super::slave::CSlave;
 use crate::other::{basics, slave::Numbers};
+use std::mem::MaybeUninit;
 
 c_struct! {
     /// A count of 100 ns steps.
@@ -78,26 +79,43 @@ c_struct! {
 
 #[link(name = "vikombare", kind = "static")]
 extern "C" {
-    fn vikombare_dvb_start_by_value(n: u16, site: u16, tad: Steps) -> CChange;
-    fn vikombare_a110_start_by_value(n: u16, site: u16, tad: Periods) -> CChange;
+    fn vikombare_dvb_start(slave: *mut CSlave, n: u16, site: u16, tad: Steps) -> u8;
+    fn vikombare_a110_start(slave: *mut CSlave, n: u16, site: u16, tad: Periods) -> u8;
     fn vikombare_packet(slave: *mut CSlave, packet: *const u8, length: usize, arrival: Tick) -> Reply;
-    fn vikombare_numbers_by_value(slave: CSlave, packet: *const u8, length: usize, arrival: Periods, notice: CNumbers) -> CStep;
-    fn vikombare_gap_by_value(slave: CSlave, k: u16) -> CChange;
+    fn vikombare_numbers(slave: *mut CSlave, packet: *const u8, length: usize, arrival: Periods, notice: CNumbers) -> Reply;
+    fn vikombare_gap(slave: *mut CSlave, k: u16) -> u8;
     fn vikombare_save(slave: CSlave, out: *mut u8, length: usize) -> u8;
-    fn vikombare_dvb_resume_by_value(block: *const u8, length: usize, n: u16, site: u16, tad: Steps) -> CChange;
-    fn vikombare_a110_resume_by_value(block: *const u8, length: usize, n: u16, site: u16, tad: Periods) -> CChange;
+    fn vikombare_dvb_resume(slave: *mut CSlave, block: *const u8, length: usize, n: u16, site: u16, tad: Steps) -> u8;
+    fn vikombare_a110_resume(slave: *mut CSlave, block: *const u8, length: usize, n: u16, site: u16, tad: Periods) -> u8;
     fn vikombare_read(packet: *const u8, length: usize) -> CReading;
     fn vikombare_write(out: *mut u8, out_length: usize, notice: CNotice, addressing: *const u8, addressing_length: usize) -> u8;
 }
 
 // No call has a condition on its arguments, so each is safe to call.
 
+/// What a start and a resume overwrite, whatever it is.
+#[inline(always)]
+fn anything() -> CSlave {
+    let mut slave = MaybeUninit::<CSlave>::uninit();
+    unsafe {
+        slave.as_mut_ptr().write_bytes(0xA5, 1);
+        slave.assume_init()
+    }
+}
+
+/// The slave that a call leaves, and its number.
+#[inline(always)]
+fn changed(mut slave: CSlave, call: impl FnOnce(&mut CSlave) -> u8) -> CChange {
+    let number = call(&mut slave);
+    CChange { slave, number }
+}
+
 #[inline(always)]
 pub fn start(profile: u8, n: u16, site: u16, tad: u32) -> CChange {
-    match profile {
-        0 => unsafe { vikombare_dvb_start_by_value(n, site, Steps { steps: tad }) },
-        _ => unsafe { vikombare_a110_start_by_value(n, site, Periods { periods: tad }) },
-    }
+    changed(anything(), |slave| match profile {
+        0 => unsafe { vikombare_dvb_start(slave, n, site, Steps { steps: tad }) },
+        _ => unsafe { vikombare_a110_start(slave, n, site, Periods { periods: tad }) },
+    })
 }
 
 /// A packet in place with a tick of this profile's clock.
@@ -107,15 +125,16 @@ pub fn packet(slave: &mut CSlave, p: &[u8], profile: u8, count: u32) -> Reply {
 }
 
 #[inline(always)]
-pub fn numbers(slave: CSlave, p: &[u8], tick: u32, m: &Numbers) -> CStep {
+pub fn numbers(mut slave: CSlave, p: &[u8], tick: u32, m: &Numbers) -> CStep {
     let [arrival, sts, md] = [tick, m.sts, m.md].map(|periods| Periods { periods });
     let notice = CNumbers { pointer: m.pointer, sts, md, od: m.od, index: m.index };
-    unsafe { vikombare_numbers_by_value(slave, p.as_ptr(), p.len(), arrival, notice) }
+    let reply = unsafe { vikombare_numbers(&mut slave, p.as_ptr(), p.len(), arrival, notice) };
+    CStep { slave, reply }
 }
 
 #[inline(always)]
 pub fn gap(slave: CSlave, k: u16) -> CChange {
-    unsafe { vikombare_gap_by_value(slave, k) }
+    changed(slave, |slave| unsafe { vikombare_gap(slave, k) })
 }
 
 #[inline(always)]
@@ -125,10 +144,10 @@ pub fn save(slave: CSlave, out: &mut [u8]) -> u8 {
 
 #[inline(always)]
 pub fn resume(block: &[u8], profile: u8, n: u16, site: u16, tad: u32) -> CChange {
-    match profile {
-        0 => unsafe { vikombare_dvb_resume_by_value(block.as_ptr(), block.len(), n, site, Steps { steps: tad }) },
-        _ => unsafe { vikombare_a110_resume_by_value(block.as_ptr(), block.len(), n, site, Periods { periods: tad }) },
-    }
+    changed(anything(), |slave| match profile {
+        0 => unsafe { vikombare_dvb_resume(slave, block.as_ptr(), block.len(), n, site, Steps { steps: tad }) },
+        _ => unsafe { vikombare_a110_resume(slave, block.as_ptr(), block.len(), n, site, Periods { periods: tad }) },
+    })
 }
 
 #[inline(always)]
