@@ -14,14 +14,14 @@ fn to_mark(n: u32, next: u32) -> u32
     if next == 0 { 0 } else { n - next }
 }
 
-// The slave after k missing packets.
+// Counts k missing packets. Of the slave, the count moves, and a waiting notice goes with its mark.
 #[tactic(auto, using(crate::proofs::Stepping::next_below), unfolding(crate::specs::Gap::gapped))]
-pub(crate) fn gapped(s: Slave, k: u16) -> Slave
-    requires { sound s ≡ true }
-    ensures { result ≡ gapped s k }
+pub(crate) fn pass_gap(s: &mut Slave, k: u16)
+    requires { sound s.old ≡ true }
+    ensures { s.new ≡ gapped s.old k }
 {
     if s.count.phase != LOCKED {
-        return s;
+        return;
     }
     let n = u32::from(s.board.n);
     let next = u32::from(s.count.next);
@@ -29,14 +29,11 @@ pub(crate) fn gapped(s: Slave, k: u16) -> Slave
     let left = to_mark(n, next);
     // `as` is proved to lose nothing
     let after = ((next + missing) % n) as u16;
-    let (marks, waiting) = if missing <= left {
-        (0, s.waiting)
+    let marks = if missing <= left {
+        0
     } else {
-        (1 + (missing - 1 - left) / n, state::nothing_waiting())
+        s.waiting = state::nothing_waiting();
+        1 + (missing - 1 - left) / n
     };
-    Slave {
-        count: steps::labelled(steps::past(s.count, marks), after),
-        waiting,
-        ..s
-    }
+    s.count = steps::labelled(steps::past(s.count, marks), after);
 }

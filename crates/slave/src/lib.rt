@@ -3,7 +3,7 @@
 #![tactic(auto)]
 
 ghost use Rattle.std.specs.Prelude.{◌≡◌, Ok};
-ghost use Rattle.wire.specs.Reply.{Reply, refused, given, refusal_number};
+ghost use Rattle.wire.specs.Reply.{Reply, refused, given, refusal_number, reply_of};
 ghost use Rattle.state.specs.Slave.{cold};
 ghost use Rattle.slave.specs.Answer.{Report, Leaves, left, report_of, answer_of, shifted_of};
 ghost use Rattle.slave.specs.Calls.{start_of, packet_of, numbers_of, gap_of};
@@ -114,7 +114,7 @@ mod ready;
 mod release;
 mod steps;
 
-// Starts a slave. 15 outside the limits, and the cold slave. A gap, below, has its own test and its own slave.
+// Starts a slave. 15 outside the limits, and the cold slave.
 #[tactic(auto, unfolding(crate::specs::Calls::start_of))]
 pub fn start(b: Board) -> Left<()>
     ensures { shifted_of result ≡ start_of b }
@@ -125,13 +125,6 @@ pub fn start(b: Board) -> Left<()>
             reply: Ok(()),
         };
     }
-    cold()
-}
-
-// 15, and the cold slave.
-fn cold() -> Left<()>
-    ensures { shifted_of result ≡ left cold (refused 15) }
-{
     Left {
         slave: state::cold_slave(),
         reply: Err(Refusal::StartSettings),
@@ -247,14 +240,13 @@ pub fn numbers_notice<A: Answer>(s: &mut Slave, p: &[u8], tick: u32, x: Numbers)
 
 // k packets are known to be missing.
 #[tactic(auto, unfolding(crate::specs::Calls::gap_of))]
-pub fn gap(s: Slave, k: u16) -> Left<()>
-    ensures { shifted_of result ≡ gap_of s k }
+pub fn gap(s: &mut Slave, k: u16) -> Result<(), Refusal>
+    ensures { left s.new (reply_of result) ≡ gap_of s.old k }
 {
-    if state::is_sound(&s) {
-        return Left {
-            slave: gaps::gapped(s, k),
-            reply: Ok(()),
-        };
+    if !state::is_sound(s) {
+        *s = state::cold_slave();
+        return Err(Refusal::StartSettings);
     }
-    cold()
+    gaps::pass_gap(s, k);
+    Ok(())
 }

@@ -191,16 +191,16 @@ pub extern "C" fn vikombare_numbers_by_value(
 pub extern "C" fn vikombare_gap(s: &mut Slave, k: u16) -> u8
     ensures { changed s.new result ≡ flat_change (gap_of s.old k) }
 {
-    let x = slave::gap(*s, k);
-    store(s, x)
+    replies::outcome_number(slave::gap(s, k))
 }
 
 // The same of a slave that is handed in and back.
 #[unsafe(no_mangle)]
-pub extern "C" fn vikombare_gap_by_value(s: Slave, k: u16) -> Change
+pub extern "C" fn vikombare_gap_by_value(mut s: Slave, k: u16) -> Change
     ensures { result ≡ flat_change (gap_of s k) }
 {
-    slave::gap(s, k).into()
+    let number = vikombare_gap(&mut s, k);
+    Change { slave: s, number }
 }
 
 // Saves a slave in the first 38 bytes that are lent; 0 or the number.
