@@ -3,12 +3,11 @@
 
 ghost use Rattle.std.specs.Prelude.{◌≡◌, true, false, MatchOption};
 ghost use Rattle.wire.specs.Reply.{must, reply, reply_of};
-ghost use Rattle.slave.specs.Answer.{shifted_of};
+ghost use Rattle.slave.specs.Answer.{left};
 ghost use Rattle.saved.specs.Layout.{body_fields, put_all, slave_in};
 ghost use Rattle.saved.specs.Block.{save_of, saved_output, trailer_site, shaped, from_body, held, block_fits, same_board, resume_of};
 
 use addressing::Settings;
-use slave::Left;
 use state::{Board, Count, Slave, Waiting};
 use wire::Refusal;
 
@@ -126,18 +125,12 @@ fn held(block: &[u8], b: Board) -> Result<Slave, Refusal>
 
 // Resumes from any bytes on a board. A refusal leaves what a start of the board leaves: the cold slave (15) or a fresh hunting one (16, 17).
 #[tactic(auto, unfolding(crate::specs::Block::resume_refusal, crate::specs::Block::resume_of, slave::specs::Calls::start_of))]
-pub fn resume(block: &[u8], b: Board) -> Left<()>
-    ensures { shifted_of result ≡ resume_of block.now b }
+pub fn resume(s: &mut Slave, block: &[u8], b: Board) -> Result<(), Refusal>
+    ensures { left s.new (reply_of result) ≡ resume_of block.now b }
 {
     let started = slave::start(b);
-    match started.reply.and_then(|()| held(block, b)) {
-        Ok(slave) => Left {
-            slave,
-            reply: Ok(()),
-        },
-        Err(refusal) => Left {
-            reply: Err(refusal),
-            ..started
-        },
-    }
+    *s = started.slave;
+    started.reply?;
+    *s = held(block, b)?;
+    Ok(())
 }

@@ -59,7 +59,7 @@ impl From<Left<()>> for Change {
     }
 }
 
-// Stores the slave of a start, a gap or a resume, and replies its number.
+// Stores the slave of a start, and replies its number.
 fn store(s: &mut Slave, x: Left<()>) -> u8
     ensures { changed s.new result ≡ flat_change (shifted_of x) }
 {
@@ -222,7 +222,7 @@ pub extern "C" fn vikombare_dvb_resume(
 ) -> u8
     ensures { changed s.new result ≡ flat_change (resume_of block.now (dvb_board n site tad)) }
 {
-    store(s, saved::resume(block, board(n, site, tad)))
+    replies::outcome_number(saved::resume(s, block, board(n, site, tad)))
 }
 
 // Resumes a saved slave on a board of profile 1 so.
@@ -236,7 +236,7 @@ pub extern "C" fn vikombare_a110_resume(
 ) -> u8
     ensures { changed s.new result ≡ flat_change (resume_of block.now (a110_board n site tad)) }
 {
-    store(s, saved::resume(block, board(n, site, tad)))
+    replies::outcome_number(saved::resume(s, block, board(n, site, tad)))
 }
 
 // Resumes a saved slave on a board of profile 0, and hands it out.
@@ -249,7 +249,9 @@ pub extern "C" fn vikombare_dvb_resume_by_value(
 ) -> Change
     ensures { result ≡ flat_change (resume_of block.now (dvb_board n site tad)) }
 {
-    saved::resume(block, board(n, site, tad)).into()
+    let mut s = state::cold_slave();
+    let number = vikombare_dvb_resume(&mut s, block, n, site, tad);
+    Change { slave: s, number }
 }
 
 // Resumes a saved slave on a board of profile 1, and hands it out.
@@ -262,7 +264,9 @@ pub extern "C" fn vikombare_a110_resume_by_value(
 ) -> Change
     ensures { result ≡ flat_change (resume_of block.now (a110_board n site tad)) }
 {
-    saved::resume(block, board(n, site, tad)).into()
+    let mut s = state::cold_slave();
+    let number = vikombare_a110_resume(&mut s, block, n, site, tad);
+    Change { slave: s, number }
 }
 
 // Reads a notice of profile 0. No From: the length is the packet's and not the notice's.
