@@ -60,10 +60,14 @@ fn board_in(head: &[u8]) -> Board
 fn begun_by(head: &[u8]) -> Left<()>
     ensures { shifted_of result ≡ begun_by head.now }
 {
-    if head.len() < SETTINGS_LENGTH {
-        return slave::start(Board::default());
-    }
-    slave::start(board_in(head))
+    let board = if head.len() < SETTINGS_LENGTH {
+        Board::default()
+    } else {
+        board_in(head)
+    };
+    let mut slave = state::cold_slave();
+    let reply = slave::start(&mut slave, board);
+    Left { slave, reply }
 }
 
 // The site line where the slave was started, or the refusal alone.

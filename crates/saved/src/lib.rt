@@ -128,9 +128,7 @@ fn held(block: &[u8], b: Board) -> Result<Slave, Refusal>
 pub fn resume(s: &mut Slave, block: &[u8], b: Board) -> Result<(), Refusal>
     ensures { left s.new (reply_of result) ≡ resume_of block.now b }
 {
-    let started = slave::start(b);
-    *s = started.slave;
-    started.reply?;
+    slave::start(s, b)?;
     *s = held(block, b)?;
     Ok(())
 }

@@ -5,7 +5,7 @@
 ghost use Rattle.std.specs.Prelude.{◌≡◌, Ok};
 ghost use Rattle.wire.specs.Reply.{Reply, refused, given, refusal_number, reply_of};
 ghost use Rattle.state.specs.Slave.{cold};
-ghost use Rattle.slave.specs.Answer.{Report, Leaves, left, report_of, answer_of, shifted_of};
+ghost use Rattle.slave.specs.Answer.{Report, Leaves, left, report_of, answer_of};
 ghost use Rattle.slave.specs.Calls.{start_of, packet_of, numbers_of, gap_of};
 ghost use Rattle.judging.specs.Judge.{judge_arrived, judge_given};
 ghost use Rattle.slave.specs.Step.{step_of};
@@ -114,21 +114,24 @@ mod ready;
 mod release;
 mod steps;
 
-// Starts a slave. 15 outside the limits, and the cold slave.
+// Starts a slave, whatever it was. 15 outside the limits.
 #[tactic(auto, unfolding(crate::specs::Calls::start_of))]
-pub fn start(b: Board) -> Left<()>
-    ensures { shifted_of result ≡ start_of b }
+pub fn start(s: &mut Slave, b: Board) -> Result<(), Refusal>
+    ensures { left s.new (reply_of result) ≡ start_of b }
 {
-    if state::settings_kept(b) {
-        return Left {
-            slave: state::hunting_slave(b),
-            reply: Ok(()),
-        };
+    if !state::settings_kept(b) {
+        return go_cold(s);
     }
-    Left {
-        slave: state::cold_slave(),
-        reply: Err(Refusal::StartSettings),
-    }
+    *s = state::hunting_slave(b);
+    Ok(())
+}
+
+// 15 leaves the cold slave.
+fn go_cold(s: &mut Slave) -> Result<(), Refusal>
+    ensures { left s.new (reply_of result) ≡ left cold (refused 15) }
+{
+    *s = state::cold_slave();
+    Err(Refusal::StartSettings)
 }
 
 // A packet that arrived right, on a sound slave: what was judged decides which step is taken, and each is one method. Packets and numbers notices have a
@@ -244,8 +247,7 @@ pub fn gap(s: &mut Slave, k: u16) -> Result<(), Refusal>
     ensures { left s.new (reply_of result) ≡ gap_of s.old k }
 {
     if !state::is_sound(s) {
-        *s = state::cold_slave();
-        return Err(Refusal::StartSettings);
+        return go_cold(s);
     }
     gaps::pass_gap(s, k);
     Ok(())

@@ -8,7 +8,6 @@ ghost use Rattle.std.specs.Prelude.{◌≡◌, length};
 ghost use Rattle.notice.specs.Mip.{addressing_field};
 ghost use Rattle.notice.specs.Reader.{read_of};
 ghost use Rattle.writer.specs.Writer.{write_of};
-ghost use Rattle.slave.specs.Answer.{shifted_of};
 ghost use Rattle.slave.specs.Calls.{start_of, packet_of, numbers_of, gap_of};
 ghost use Rattle.saved.specs.Block.{save_of, resume_of};
 ghost use Rattle.replies.specs.Flat.{flat_left, flat_step};
@@ -17,7 +16,7 @@ ghost use Rattle.vikombare.specs.Flat.{tick_on, changed, flat_change, dvb_board,
 use judging::Numbers;
 use notice::Notice;
 use replies::{PacketReply, Step};
-use slave::{Left, Way};
+use slave::Way;
 use state::{Board, Slave};
 use times::{Periods, Steps, Unit};
 use wire::Refusal;
@@ -47,26 +46,6 @@ pub struct NoticeRead {
     pub addressing: usize,
 }
 
-// The number and the slave of a start, a gap or a resume.
-impl From<Left<()>> for Change {
-    ghost from_gives = { λ x r. r ≡ flat_change (shifted_of x) };
-
-    fn from(x: Left<()>) -> Change {
-        Change {
-            slave: x.slave,
-            number: replies::outcome_number(x.reply),
-        }
-    }
-}
-
-// Stores the slave of a start, and replies its number.
-fn store(s: &mut Slave, x: Left<()>) -> u8
-    ensures { changed s.new result ≡ flat_change (shifted_of x) }
-{
-    *s = x.slave;
-    replies::outcome_number(x.reply)
-}
-
 // The settings of a board whose TAD is in this unit. The calls that make one are names that C links, which can have no type parameter; their parameters
 // are C's.
 fn board<T: Unit>(n: u16, site: u16, tad: T) -> Board
@@ -85,7 +64,7 @@ fn board<T: Unit>(n: u16, site: u16, tad: T) -> Board
 pub extern "C" fn vikombare_dvb_start(s: &mut Slave, n: u16, site: u16, tad: Steps) -> u8
     ensures { changed s.new result ≡ flat_change (start_of (dvb_board n site tad)) }
 {
-    store(s, slave::start(board(n, site, tad)))
+    replies::outcome_number(slave::start(s, board(n, site, tad)))
 }
 
 // Starts a slave of profile 1 so.
@@ -93,7 +72,7 @@ pub extern "C" fn vikombare_dvb_start(s: &mut Slave, n: u16, site: u16, tad: Ste
 pub extern "C" fn vikombare_a110_start(s: &mut Slave, n: u16, site: u16, tad: Periods) -> u8
     ensures { changed s.new result ≡ flat_change (start_of (a110_board n site tad)) }
 {
-    store(s, slave::start(board(n, site, tad)))
+    replies::outcome_number(slave::start(s, board(n, site, tad)))
 }
 
 // Starts a slave of profile 0, and hands it out.
@@ -101,7 +80,9 @@ pub extern "C" fn vikombare_a110_start(s: &mut Slave, n: u16, site: u16, tad: Pe
 pub extern "C" fn vikombare_dvb_start_by_value(n: u16, site: u16, tad: Steps) -> Change
     ensures { result ≡ flat_change (start_of (dvb_board n site tad)) }
 {
-    slave::start(board(n, site, tad)).into()
+    let mut s = state::cold_slave();
+    let number = vikombare_dvb_start(&mut s, n, site, tad);
+    Change { slave: s, number }
 }
 
 // Starts a slave of profile 1, and hands it out.
@@ -109,7 +90,9 @@ pub extern "C" fn vikombare_dvb_start_by_value(n: u16, site: u16, tad: Steps) ->
 pub extern "C" fn vikombare_a110_start_by_value(n: u16, site: u16, tad: Periods) -> Change
     ensures { result ≡ flat_change (start_of (a110_board n site tad)) }
 {
-    slave::start(board(n, site, tad)).into()
+    let mut s = state::cold_slave();
+    let number = vikombare_a110_start(&mut s, n, site, tad);
+    Change { slave: s, number }
 }
 
 // The tick as a count of the slave's own clock, or none: the largest number, which no second has, so that the slave refuses it (3).
