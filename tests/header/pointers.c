@@ -1,5 +1,5 @@
-/* Holds each call that include/vikombare.h makes of a by-value call to that call: the number or the reply, and the slave that is left, field by field. The
- * same file is C11 and C++11. */
+/* Holds each call of include/vikombare.h that moves a slave by pointer to the same call by value: the number or the reply, and the slave that is left, field
+ * by field. The same file is C11 and C++11. */
 #include <stdio.h>
 #include <string.h>
 
