@@ -124,17 +124,29 @@ pub fn packet(slave: &mut CSlave, p: &[u8], profile: u8, count: u32) -> Reply {
     unsafe { vikombare_packet(slave, p.as_ptr(), p.len(), Tick { profile, count }) }
 }
 
+/// A numbers notice in place.
 #[inline(always)]
-pub fn numbers(mut slave: CSlave, p: &[u8], tick: u32, m: &Numbers) -> CStep {
+pub fn numbers_lent(slave: &mut CSlave, p: &[u8], tick: u32, m: &Numbers) -> Reply {
     let [arrival, sts, md] = [tick, m.sts, m.md].map(|periods| Periods { periods });
     let notice = CNumbers { pointer: m.pointer, sts, md, od: m.od, index: m.index };
-    let reply = unsafe { vikombare_numbers(&mut slave, p.as_ptr(), p.len(), arrival, notice) };
+    unsafe { vikombare_numbers(slave, p.as_ptr(), p.len(), arrival, notice) }
+}
+
+#[inline(always)]
+pub fn numbers(mut slave: CSlave, p: &[u8], tick: u32, m: &Numbers) -> CStep {
+    let reply = numbers_lent(&mut slave, p, tick, m);
     CStep { slave, reply }
+}
+
+/// A gap in place.
+#[inline(always)]
+pub fn gap_lent(slave: &mut CSlave, k: u16) -> u8 {
+    unsafe { vikombare_gap(slave, k) }
 }
 
 #[inline(always)]
 pub fn gap(slave: CSlave, k: u16) -> CChange {
-    changed(slave, |slave| unsafe { vikombare_gap(slave, k) })
+    changed(slave, |slave| gap_lent(slave, k))
 }
 
 #[inline(always)]

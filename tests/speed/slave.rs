@@ -246,10 +246,11 @@ pub fn measure() {
         vec![
             candidate("", |k| vikombare::numbers(c_slaves[k], &null, tick(), &numbers[k])),
             candidate("", |k| numbers_by_value(slaves[k], &null, tick(), &numbers[k])),
+            candidate("", |k| vikombare::numbers_lent(black_box(&mut c_slaves[k].clone()), &null, tick(), &numbers[k])),
             candidate("", |k| numbers_in_place(black_box(&mut slaves[k].clone()), &null, tick(), &numbers[k])),
         ],
     );
-    row("numbers notice", [Some(figures[0]), Some(figures[1])], [None, Some(figures[2])]);
+    row("numbers notice", [Some(figures[0]), Some(figures[1])], [Some(figures[2]), Some(figures[3])]);
 
     let dues: Vec<Slave> = (0..INPUTS).map(due).collect();
     for (what, slaves) in [("gap", dues.clone()), ("gap, profile 1", slaves)] {
@@ -259,15 +260,17 @@ pub fn measure() {
         }
         let c_slaves = of_c(&slaves);
         let mut moving: Vec<Slave> = slaves.clone();
+        let mut c_moving = c_slaves.clone();
         let figures = best(
             ROUNDS,
             vec![
                 candidate("", |k| vikombare::gap(c_slaves[k], k_of(k))),
                 candidate("", |k| gap_by_value(slaves[k], k_of(k))),
+                candidate("", move |k| vikombare::gap_lent(&mut c_moving[k], k_of(k))),
                 candidate("", move |k| gap_in_place(&mut moving[k], k_of(k))),
             ],
         );
-        row(what, [Some(figures[0]), Some(figures[1])], [None, Some(figures[2])]);
+        row(what, [Some(figures[0]), Some(figures[1])], [Some(figures[2]), Some(figures[3])]);
     }
     saves(&dues);
 
