@@ -12,6 +12,7 @@ use Rattle.addressing.specs.Functions.{no_settings}
 use Rattle.state.specs.Slave.{unknown}
 use Rattle.state.specs.declared.Slave.{Slave}
 use Rattle.slave.specs.Answer.{due, mark_number}
+use Rattle.slave.specs.Step.{locked_at}
 use Rattle.slave.specs.Gap.{gapped}
 
 -- an example's number, the values that the definitions compute, and those that the paper states
@@ -33,7 +34,7 @@ near_mark =
     record {
       board = record { profile = 0; n = 2016; site = 7; tad = 0 };
       settings = no_settings;
-      count = record { phase = 2; next = 2010; index = unknown };
+      count = locked_at 2010 unknown;
       waiting = record { pending = 1; sts = 9_500_000; md = 700_000 };
     }
 

@@ -16,6 +16,7 @@ use Rattle.state.specs.Sound.{frequency_fits, index_fits, waiting_fits, locked_f
 use Rattle.state.specs.declared.Board.{Board}
 use Rattle.state.specs.declared.Slave.{Slave}
 use Rattle.slave.specs.Answer.{left}
+use Rattle.slave.specs.Step.{locked_at}
 use Rattle.slave.specs.Calls.{start_of}
 use Rattle.saved.specs.Layout.{body_of, slave_in}
 use Rattle.saved.specs.Block.{block_length, covered_of, block_of, save_refusal, save_of, shaped, from_body, block_fits, resume_refusal, resume_of}
@@ -31,7 +32,7 @@ locked =
     record {
       board = board 7;
       settings = record { od = negsuc 50; frequency = negsuc 99_999; power = 300 };
-      count = record { phase = 2; next = 2015; index = unknown };
+      count = locked_at 2015 unknown;
       waiting = record { pending = 1; sts = 9_999_999; md = 1100 };
     }
 

@@ -25,17 +25,17 @@ place_of index label = cond (eqb index unknown) none (some (mobile_place ((index
 
 -- the count with another label, and after some marks
 abbrev pub labelled : Count → ℕ → Count
-labelled c next = record { phase = c.phase; next = next; index = c.index }
+labelled c next = record c { next = next }
 
 abbrev pub past : Count → ℕ → Count
-past c marks = record { phase = c.phase; next = c.next; index = raised c.index marks }
+past c marks = record c { index = raised c.index marks }
 
 -- the count of a slave that takes a notice, and a slave with what a step may change
 abbrev pub locked_at : (next index : ℕ) → Count
 locked_at next index = record { phase = 2; next = next; index = index }
 
 abbrev pub moved_to : Slave → Settings → Count → Waiting → Slave
-moved_to s t c w = record { board = s.board; settings = t; count = c; waiting = w }
+moved_to s t c w = record s { settings = t; count = c; waiting = w }
 
 -- the pending notice's release, by the settings in force
 unfoldable pub release_at : Slave → ℕ → Mark

@@ -134,8 +134,8 @@ fn go_cold(s: &mut Slave) -> Result<(), Refusal>
     Err(Refusal::StartSettings)
 }
 
-// A packet that arrived right, on a sound slave: what was judged decides which step is taken, and each is one method. Packets and numbers notices have a
-// function each, of one caller, so that the compiler keeps the steps of either out of memory.
+// A packet that arrived right, on a sound slave: what was judged decides which step is taken, and each is one method. A function of one caller, so that
+// the compiler keeps the steps out of memory.
 #[tactic(auto, using(judging::proofs::Judging::arrived_limits), unfolding(crate::specs::Step::step_of, crate::specs::Step::counted, crate::specs::Step::unheard))]
 fn arrived(r: Ready<'_>, p: &[u8]) -> Way
     ensures { way_of r.entry.slave.now (Ok result) ≡ step_of r.entry.slave.now (judge_arrived r.entry.slave.now.board r.entry.slave.now.settings p.now) r.entry.tick }
@@ -216,8 +216,8 @@ pub fn packet<A: Answer>(s: &mut Slave, p: &[u8], tick: u32) -> A
 }
 
 // A packet that comes with a notice in numbers: 15, then 1 to 3, 20, 4 and 11 to 13. Not by a way: its notice is taken or ignored, and each arm stores what
-// it moves, which after both would go through memory (33 ns for 54).
-#[tactic(auto, using(judging::proofs::Judging::given_limits), unfolding(crate::specs::Calls::numbers_of, crate::specs::Step::step_of))]
+// it moves, which after both would go through memory (28 ns for 54).
+#[tactic(auto, using(judging::proofs::Judging::given_limits))]
 #[inline(always)]
 pub fn numbers_notice<A: Answer>(s: &mut Slave, p: &[u8], tick: u32, x: Numbers) -> A
     ensures { Leaves A.says s.new result (numbers_of s.old p.now tick x) }
