@@ -138,7 +138,7 @@ typedef struct {
 } vikombare_settings;
 
 enum {
-    VIKOMBARE_PHASE_COLD = 0,    /* not started, or found unsound: every call answers 15 */
+    VIKOMBARE_PHASE_COLD = 0,    /* not started, or found unsound: every call but a start or a resume answers 15 */
     VIKOMBARE_PHASE_HUNTING = 1, /* started, no notice taken yet: no labels and no marks */
     VIKOMBARE_PHASE_LOCKED = 2   /* counts packets, from the first notice taken on */
 };
@@ -291,7 +291,7 @@ VIKOMBARE_KEEP vikombare_reply vikombare_packet(vikombare_slave *slave, const ui
  * 20 (each leaves the slave as it was); then 4, 11, 12, 13 ignore the notice, and the packet counts. A slave of profile 0 takes no numbers notice: it
  * answers 3 where the arrival's count is VIKOMBARE_DVB_SECOND or more, else 20. */
 VIKOMBARE_KEEP vikombare_reply vikombare_numbers(vikombare_slave *slave, const uint8_t *packet, size_t length, vikombare_periods arrival,
-                                                               vikombare_numbers_notice notice);
+                                                 vikombare_numbers_notice notice);
 
 /* Tells a locked slave that k packets were lost: it counts on, passes the marks among them, and drops a notice whose mark is among them. A hunting slave
  * is unchanged. Order: 15 (leaves the cold slave). */
@@ -301,13 +301,14 @@ VIKOMBARE_KEEP uint8_t vikombare_gap(vikombare_slave *slave, uint16_t k);
 VIKOMBARE_KEEP uint8_t vikombare_save(vikombare_slave slave, uint8_t *out, size_t length);
 
 /* Resumes from a saved block, whose trailer is the last 8 bytes that are lent, on a board of these settings: lend what save wrote and nothing behind it.
+ * The block must not lie in *slave, which is written first.
  * What *slave held is overwritten, also where the call refuses, and need not be initialised. Order: 15 (leaves the cold slave), 16, 17 (each leaves a
  * fresh hunting slave of these settings). Whatever the bytes are, unless the answer is 15 the slave's profile, n, site and TAD are these, never the
  * block's. A locked slave goes on from the label that was saved: SETTING OUT AND COMING BACK, above, says what has to be told. */
 VIKOMBARE_KEEP uint8_t vikombare_dvb_resume(vikombare_slave *slave, const uint8_t *block, size_t length, uint16_t n, uint16_t site,
-                                                          vikombare_steps tad);
+                                            vikombare_steps tad);
 VIKOMBARE_KEEP uint8_t vikombare_a110_resume(vikombare_slave *slave, const uint8_t *block, size_t length, uint16_t n, uint16_t site,
-                                                           vikombare_periods tad);
+                                             vikombare_periods tad);
 
 /* Reads a notice of profile 0. Order: 1, 2, 4 to 11. */
 VIKOMBARE_KEEP vikombare_reading vikombare_read(const uint8_t *packet, size_t length);

@@ -92,7 +92,7 @@ static uint8_t blocks[SAVED][BLOCK + 1];
 static const vikombare_steps DVB_TAD = {200};
 static const vikombare_periods A110_TAD = {1000};
 
-/* By the calls that are none of those tried here. */
+/* By the calls by value, and those that have no such form. */
 static void prepare(void)
 {
     static const uint8_t offset[] = {0, 7, 4, 0, 4, 0, 50};
@@ -129,7 +129,7 @@ static void prepare(void)
 #define START(call, unit, n, site, count)                                  \
     do {                                                                   \
         const unit tad = {count};                                          \
-        vikombare_slave slave = slaves[tried % SLAVES];                    \
+        vikombare_slave slave = slaves[(tried + NO_SLAVE) % SLAVES];                    \
         const uint8_t number = call(&slave, n, site, tad);                 \
         same_change(#call, number, &slave, call##_by_value(n, site, tad)); \
     } while (0)
@@ -142,7 +142,7 @@ static void prepare(void)
         size_t length;                                                                                \
         for (k = 0; k < SAVED; k++)                                                                   \
             for (length = 0; length <= BLOCK + 1; length++) {                                         \
-                vikombare_slave slave = slaves[tried % SLAVES];                                       \
+                vikombare_slave slave = slaves[(tried + NO_SLAVE) % SLAVES];                                       \
                 const uint8_t number = call(&slave, blocks[k], length, n, site, tad);                 \
                 same_change(#call, number, &slave, call##_by_value(blocks[k], length, n, site, tad)); \
             }                                                                                         \

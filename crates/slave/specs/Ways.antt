@@ -1,5 +1,5 @@
--- What a packet changes of a slave, so that a call stores just that. No call's contract cites it but that of `way_of`: what a way leaves and replies is
--- `packet_of`.
+-- What a packet changes of a slave, so that a call stores just that. No public call's contract cites it but that of `way_of`: what a way leaves and
+-- replies is `packet_of`.
 use Rattle.std.specs.Prelude as std
 use Rattle.std.specs.Prelude.{Ok, Err, cond, eqb}
 use Rattle.wire.specs.declared.Refusal.{Refusal}

@@ -216,7 +216,7 @@ pub fn packet<A: Answer>(s: &mut Slave, p: &[u8], tick: u32) -> A
 }
 
 // A packet that comes with a notice in numbers: 15, then 1 to 3, 20, 4 and 11 to 13. Not by a way: its notice is taken or ignored, and each arm stores what
-// it moves, which after both would go through memory (28 ns for 54).
+// it moves, which after both would go through memory (28 ns through C, for 54).
 #[tactic(auto, using(judging::proofs::Judging::given_limits))]
 #[inline(always)]
 pub fn numbers_notice<A: Answer>(s: &mut Slave, p: &[u8], tick: u32, x: Numbers) -> A

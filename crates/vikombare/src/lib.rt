@@ -1,7 +1,7 @@
 // The calls that a board's firmware links, for C: a slave's start, packets, numbers notices and gaps, its saved block, and notices read and written. Each
-// call that moves a slave is lent it; those that have another form hand it back by value there. include/vikombare.h is their header. No call has a
-// condition on its numbers: bad input gets its number of document 01's table. C has no Option, no Result and no enum with values: a number stands beside
-// what it says.
+// call that moves a slave is lent it; a name that ends in _by_value is the same call with the slave handed in and out. include/vikombare.h is their header.
+// No call has a condition on its numbers: bad input gets its number of document 01's table. C has no Option, no Result and no enum with values: a number
+// stands beside what it says.
 #![tactic(auto)]
 
 ghost use Rattle.std.specs.Prelude.{◌≡◌, length};
