@@ -5,8 +5,8 @@
  *
  * A call that moves a slave gets it by pointer and leaves the new one in its place; its result is the reply, or a number alone.
  *
- * Each call has a contract that is proved for every value of its arguments, and this text says it in words: there is no number that a call does not
- * answer, it never reads or writes outside what it was lent, and it always returns. What is up to the caller:
+ * Each call of the library has a contract that is proved for every value of its arguments, and this text says it in words: there is no number that a call
+ * does not answer, it never reads or writes outside what it was lent, and it always returns. What is up to the caller:
  *  - a pointer leads to as many bytes as the length beside it says, and is not null, also where that length is 0; a vikombare_slave pointer leads to one,
  *    and for a start or a resume to room for one, whatever it holds;
  *  - memory that is lent for writing does not overlap what else is lent to the same call;
