@@ -46,10 +46,10 @@ extern "C" {
 #endif
 
 /* The version of this interface. MAJOR rises where a program has to be changed or compiled anew, MINOR where something is added. */
-#define VIKOMBARE_VERSION_MAJOR 1
-#define VIKOMBARE_VERSION_MINOR 1
+#define VIKOMBARE_VERSION_MAJOR 2
+#define VIKOMBARE_VERSION_MINOR 0
 
-/* An answer that must not be thrown away: it says what to do, or has the new slave. The compiler warns where one is. */
+/* An answer that must not be thrown away: it says what to do. The compiler warns where one is. */
 #if (defined(__cplusplus) && __cplusplus >= 201703L) || (defined(__STDC_VERSION__) && __STDC_VERSION__ >= 202311L)
 #define VIKOMBARE_KEEP [[nodiscard]]
 #elif defined(__GNUC__)
@@ -273,6 +273,7 @@ VIKOMBARE_HOLDS(sizeof(vikombare_reply) == 48 && offsetof(vikombare_reply, place
 VIKOMBARE_HOLDS(sizeof(vikombare_numbers_notice) == 16 && offsetof(vikombare_numbers_notice, od) == 12);
 VIKOMBARE_HOLDS(sizeof(vikombare_notice) == 20 && offsetof(vikombare_notice, sts) == 8 && offsetof(vikombare_notice, tps) == 16);
 VIKOMBARE_HOLDS(sizeof(vikombare_reading) == 32 && offsetof(vikombare_reading, notice) == 4 && offsetof(vikombare_reading, addressing) == 24);
+#undef VIKOMBARE_HOLDS
 
 /* Starts a slave: hunting, nothing pending. What *slave held is overwritten, also where the call refuses, and need not be initialised. n is one of the
  * profile's cadences (profile 0: 2016 * v * r with v = 2, 4 or 6 bits and r = 1/2, 2/3, 3/4, 5/6 or 7/8, such as 10584 for 64-QAM 7/8, the same in 2K and
@@ -317,31 +318,6 @@ VIKOMBARE_KEEP vikombare_reading vikombare_read(const uint8_t *packet, size_t le
  * in out: to write a packet anew in its place, copy its field first. Order: 18, 19, 8 (an addressing field of more than 163 bytes), 10, 11; each keeps
  * every byte of out. The writer knows no n, and writes every pointer as given. */
 VIKOMBARE_KEEP uint8_t vikombare_write(uint8_t *out, size_t out_length, vikombare_notice notice, const uint8_t *addressing, size_t addressing_length);
-
-/* BY VALUE
- * The same start, numbers notice, gap and resume with the slave handed in and out: the new slave stands beside the number or the reply, and whoever calls
- * has to keep it. Firmware needs the calls above alone. */
-typedef struct {
-    vikombare_slave slave;
-    uint8_t number; /* 0, or why it refuses */
-} vikombare_change;
-
-typedef struct {
-    vikombare_slave slave;
-    vikombare_reply reply;
-} vikombare_step;
-
-VIKOMBARE_HOLDS(sizeof(vikombare_change) == 44 && offsetof(vikombare_change, number) == 40);
-VIKOMBARE_HOLDS(sizeof(vikombare_step) == 88 && offsetof(vikombare_step, reply) == 40);
-#undef VIKOMBARE_HOLDS
-
-VIKOMBARE_KEEP vikombare_change vikombare_dvb_start_by_value(uint16_t n, uint16_t site, vikombare_steps tad);
-VIKOMBARE_KEEP vikombare_change vikombare_a110_start_by_value(uint16_t n, uint16_t site, vikombare_periods tad);
-VIKOMBARE_KEEP vikombare_step vikombare_numbers_by_value(vikombare_slave slave, const uint8_t *packet, size_t length, vikombare_periods arrival,
-                                                         vikombare_numbers_notice notice);
-VIKOMBARE_KEEP vikombare_change vikombare_gap_by_value(vikombare_slave slave, uint16_t k);
-VIKOMBARE_KEEP vikombare_change vikombare_dvb_resume_by_value(const uint8_t *block, size_t length, uint16_t n, uint16_t site, vikombare_steps tad);
-VIKOMBARE_KEEP vikombare_change vikombare_a110_resume_by_value(const uint8_t *block, size_t length, uint16_t n, uint16_t site, vikombare_periods tad);
 
 #ifdef __cplusplus
 }

@@ -37,9 +37,6 @@ int main(void)
     FIELD(slave, settings);
     FIELD(slave, count);
     FIELD(slave, waiting);
-    STRUCT(change);
-    FIELD(change, slave);
-    FIELD(change, number);
     STRUCT(dvb_times);
     FIELD(dvb_times, reference);
     FIELD(dvb_times, emission);
@@ -65,9 +62,6 @@ int main(void)
     FIELD(reply, has_place);
     FIELD(reply, place);
     FIELD(reply, mark);
-    STRUCT(step);
-    FIELD(step, slave);
-    FIELD(step, reply);
     STRUCT(numbers_notice);
     FIELD(numbers_notice, pointer);
     FIELD(numbers_notice, sts);

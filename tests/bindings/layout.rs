@@ -9,7 +9,7 @@ mod bindings;
 mod other;
 
 use bindings::slave::{CBoard, CCount, CSettings, CSlave, CWaiting};
-use bindings::vikombare::{CChange, CNotice, CNumbers, CReading, CStep, Mark, Periods, Reply, Steps, Tick, Times};
+use bindings::vikombare::{CNotice, CNumbers, CReading, Mark, Periods, Reply, Steps, Tick, Times};
 
 fn main() {
     Steps::layout("steps");
@@ -20,12 +20,10 @@ fn main() {
     CCount::layout("count");
     CWaiting::layout("waiting");
     CSlave::layout("slave");
-    CChange::layout("change");
     Times::layout("dvb_times");
     Times::layout("a110_times");
     Mark::layout("mark");
     Reply::layout("reply");
-    CStep::layout("step");
     CNumbers::layout("numbers_notice");
     CNotice::layout("notice");
     CReading::layout("reading");

@@ -116,12 +116,13 @@ pub extern "C" fn probe_mobile_place(i: u8, p: u16) -> u16
     cadence::mobile_place(i, p)
 }
 
-// A packet by value, answered in the form that a numbers notice has.
+// A packet by value, with the reply as plain numbers.
 #[unsafe(no_mangle)]
-pub extern "C" fn probe_packet(s: Slave, p: &[u8], tick: u32) -> Step
+pub extern "C" fn probe_packet(mut s: Slave, p: &[u8], tick: u32) -> Step
     ensures { result ≡ flat_step (packet_of s p.now tick) }
 {
-    by_value::packet_step(s, p, tick)
+    let reply = slave::packet(&mut s, p, tick);
+    Step { slave: s, reply }
 }
 
 // Hands the slave back with an empty reply: what a packet by value costs before anything is done.

@@ -84,6 +84,9 @@ answer_of (Err r) = refused (refusal_number r)
 abbrev pub shifted_of : Left (Unit {0}) → Result (Unit {0})
 shifted_of r = left r.slave (reply_of r.reply)
 
+abbrev pub stepped_of : Left Counted'.Counted → Result Report
+stepped_of r = left r.slave (answer_of r.reply)
+
 -- a call leaves this slave, and its answer says this reply: what an answer says is given for each form of answer
 abbrev pub Leaves : {A : Type 0} → (A → Reply Report → Type 0) → Slave → A → Result Report → Type 0
 Leaves says s a r = (s ≡ r.slave) × says a r.reply

@@ -5,7 +5,7 @@
 ghost use Rattle.std.specs.Prelude.{◌≡◌, Ok};
 ghost use Rattle.wire.specs.Reply.{Reply, refused, given, refusal_number, reply_of};
 ghost use Rattle.state.specs.Slave.{cold};
-ghost use Rattle.slave.specs.Answer.{Report, Leaves, left, report_of, answer_of};
+ghost use Rattle.slave.specs.Answer.{Report, Leaves, left, report_of, answer_of, stepped_of};
 ghost use Rattle.slave.specs.Calls.{start_of, packet_of, numbers_of, gap_of};
 ghost use Rattle.judging.specs.Judge.{judge_arrived, judge_given};
 ghost use Rattle.slave.specs.Step.{step_of};
@@ -213,6 +213,14 @@ pub fn packet<A: Answer>(s: &mut Slave, p: &[u8], tick: u32) -> A
 {
     let way = way_of(s, p, tick);
     apply(s, way)
+}
+
+// The same of a slave that is handed in and back.
+pub fn packet_by_value(mut s: Slave, p: &[u8], tick: u32) -> Left<Counted>
+    ensures { stepped_of result ≡ packet_of s p.now tick }
+{
+    let reply = packet(&mut s, p, tick);
+    Left { slave: s, reply }
 }
 
 // A packet that comes with a notice in numbers: 15, then 1 to 3, 20, 4 and 11 to 13. Not by a way: its notice is taken or ignored, and each arm stores what

@@ -78,6 +78,7 @@ impl Arrival {
     }
 
     // How long the mark is still to be held.
+    #[tactic(auto, unfolding(times::specs::Release::delay_fits, times::specs::Whole::within))]
     fn wait(self) -> i64
         ensures { result ≡ wait self.md self.od self.tad (link_delay self.u self.tick self.sts) }
     {

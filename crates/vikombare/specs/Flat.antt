@@ -8,7 +8,6 @@ use Rattle.state.specs.declared.Board.{Board}
 use Rattle.state.specs.declared.Slave.{Slave}
 use Rattle.slave.specs.Answer.{Result}
 use Rattle.vikombare.specs.declared.Tick.{Tick}
-use Rattle.vikombare.specs.declared.Change.{Change}
 use Rattle.vikombare.specs.declared.NoticeRead.{NoticeRead}
 
 -- no tick: more than the units of any second
@@ -27,10 +26,14 @@ abbrev pub a110_board : ℕ → ℕ → Periods → Board
 a110_board n site tad = record { profile = 1; n = n; site = site; tad = tad.0 }
 
 -- what a start, a gap or a resume leaves, with the number of its reply
-abbrev pub changed : Slave → ℕ → Change
+pub record Changed : Type 0 where
+  pub slave : Slave
+  pub number : ℕ
+
+abbrev pub changed : Slave → ℕ → Changed
 changed s k = record { slave = s; number = k }
 
-abbrev pub flat_change : Result (Unit {0}) → Change
+abbrev pub flat_change : Result (Unit {0}) → Changed
 flat_change r = changed r.slave (number_of r.reply)
 
 -- what a save or a write leaves: its number, and the bytes of the buffer

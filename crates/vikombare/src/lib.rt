@@ -1,5 +1,5 @@
 // The calls that a board's firmware links, for C: a slave's start, packets, numbers notices and gaps, its saved block, and notices read and written. Each
-// call that moves a slave is lent it; a name that ends in _by_value is the same call with the slave handed in and out. include/vikombare.h is their header.
+// call that moves a slave is lent it. include/vikombare.h is their header.
 // No call has a condition on its numbers: bad input gets its number of document 01's table. C has no Option, no Result and no enum with values: a number
 // stands beside what it says.
 #![tactic(auto)]
@@ -15,7 +15,7 @@ ghost use Rattle.vikombare.specs.Flat.{tick_on, changed, flat_change, dvb_board,
 
 use judging::Numbers;
 use notice::Notice;
-use replies::{PacketReply, Step};
+use replies::PacketReply;
 use slave::Way;
 use state::{Board, Slave};
 use times::{Periods, Steps, Unit};
@@ -27,14 +27,6 @@ use wire::Refusal;
 pub struct Tick {
     pub profile: u8,
     pub count: u32,
-}
-
-// What a start, a gap or a resume leaves: the number is 0 where nothing refuses.
-#[repr(C)]
-#[derive(Clone, Copy)]
-pub struct Change {
-    pub slave: Slave,
-    pub number: u8,
 }
 
 // A notice that was read: its fields, and the length of its addressing field, which begins at byte 21 of the packet.
@@ -73,26 +65,6 @@ pub extern "C" fn vikombare_a110_start(s: &mut Slave, n: u16, site: u16, tad: Pe
     ensures { changed s.new result ≡ flat_change (start_of (a110_board n site tad)) }
 {
     replies::outcome_number(slave::start(s, board(n, site, tad)))
-}
-
-// Starts a slave of profile 0, and hands it out.
-#[unsafe(no_mangle)]
-pub extern "C" fn vikombare_dvb_start_by_value(n: u16, site: u16, tad: Steps) -> Change
-    ensures { result ≡ flat_change (start_of (dvb_board n site tad)) }
-{
-    let mut s = state::cold_slave();
-    let number = vikombare_dvb_start(&mut s, n, site, tad);
-    Change { slave: s, number }
-}
-
-// Starts a slave of profile 1, and hands it out.
-#[unsafe(no_mangle)]
-pub extern "C" fn vikombare_a110_start_by_value(n: u16, site: u16, tad: Periods) -> Change
-    ensures { result ≡ flat_change (start_of (a110_board n site tad)) }
-{
-    let mut s = state::cold_slave();
-    let number = vikombare_a110_start(&mut s, n, site, tad);
-    Change { slave: s, number }
 }
 
 // The tick as a count of the slave's own clock, or none: the largest number, which no second has, so that the slave refuses it (3).
@@ -155,35 +127,12 @@ pub extern "C" fn vikombare_numbers(
     slave::numbers_notice(s, p, tick.0, x)
 }
 
-// The same of a slave that is handed in and back.
-#[unsafe(no_mangle)]
-pub extern "C" fn vikombare_numbers_by_value(
-    mut s: Slave,
-    p: &[u8],
-    tick: Periods,
-    x: Numbers,
-) -> Step
-    ensures { result ≡ flat_step (numbers_of s p.now tick.0 x) }
-{
-    let reply = vikombare_numbers(&mut s, p, tick, x);
-    Step { slave: s, reply }
-}
-
 // A gap of k packets.
 #[unsafe(no_mangle)]
 pub extern "C" fn vikombare_gap(s: &mut Slave, k: u16) -> u8
     ensures { changed s.new result ≡ flat_change (gap_of s.old k) }
 {
     replies::outcome_number(slave::gap(s, k))
-}
-
-// The same of a slave that is handed in and back.
-#[unsafe(no_mangle)]
-pub extern "C" fn vikombare_gap_by_value(mut s: Slave, k: u16) -> Change
-    ensures { result ≡ flat_change (gap_of s k) }
-{
-    let number = vikombare_gap(&mut s, k);
-    Change { slave: s, number }
 }
 
 // Saves a slave in the first 38 bytes that are lent; 0 or the number.
@@ -220,36 +169,6 @@ pub extern "C" fn vikombare_a110_resume(
     ensures { changed s.new result ≡ flat_change (resume_of block.now (a110_board n site tad)) }
 {
     replies::outcome_number(saved::resume(s, block, board(n, site, tad)))
-}
-
-// Resumes a saved slave on a board of profile 0, and hands it out.
-#[unsafe(no_mangle)]
-pub extern "C" fn vikombare_dvb_resume_by_value(
-    block: &[u8],
-    n: u16,
-    site: u16,
-    tad: Steps,
-) -> Change
-    ensures { result ≡ flat_change (resume_of block.now (dvb_board n site tad)) }
-{
-    let mut s = state::cold_slave();
-    let number = vikombare_dvb_resume(&mut s, block, n, site, tad);
-    Change { slave: s, number }
-}
-
-// Resumes a saved slave on a board of profile 1, and hands it out.
-#[unsafe(no_mangle)]
-pub extern "C" fn vikombare_a110_resume_by_value(
-    block: &[u8],
-    n: u16,
-    site: u16,
-    tad: Periods,
-) -> Change
-    ensures { result ≡ flat_change (resume_of block.now (a110_board n site tad)) }
-{
-    let mut s = state::cold_slave();
-    let number = vikombare_a110_resume(&mut s, block, n, site, tad);
-    Change { slave: s, number }
 }
 
 // Reads a notice of profile 0. No From: the length is the packet's and not the notice's.

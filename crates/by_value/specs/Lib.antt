@@ -1,2 +1,0 @@
--- The definitions of crate `by_value`.
-pub mod Stepped
