@@ -42,7 +42,7 @@ fn set_by(function: &[u8], t: Settings) -> Result<Settings, Refusal>
 {
     Ok(match function {
         [0, _, a, b] => Settings {
-            od: wire::signed_16(u16::from_be_bytes([*a, *b])),
+            od: i16::from_be_bytes([*a, *b]),
             ..t
         },
         [1, _, a, b, c] => Settings {

@@ -129,7 +129,7 @@ pub fn seal(out: &mut [u8], end: usize)
     ensures { out.new ≡ sealed_at end out.old }
 {
     if let Some(bytes) = out.get(..end) {
-        let check = wire::bytes_32(register_of(bytes));
+        let check = register_of(bytes).to_be_bytes();
         wire::put(out, end, &check);
     }
 }

@@ -24,21 +24,17 @@ fn put_body(out: &mut [u8], s: Slave)
 {
     wire::put(out, 0, &[s.count.phase]);
     wire::put(out, 1, &[s.board.profile]);
-    wire::put(out, 2, &wire::bytes_16(s.board.n));
-    wire::put(out, 4, &wire::bytes_16(s.board.site));
-    wire::put(out, 6, &wire::bytes_32(s.board.tad));
-    wire::put(out, 10, &wire::bytes_16(wire::bits_16(s.settings.od)));
-    wire::put(
-        out,
-        12,
-        &wire::bytes_32(wire::bits_32(s.settings.frequency)),
-    );
-    wire::put(out, 16, &wire::bytes_16(s.settings.power));
-    wire::put(out, 18, &wire::bytes_16(s.count.next));
+    wire::put(out, 2, &s.board.n.to_be_bytes());
+    wire::put(out, 4, &s.board.site.to_be_bytes());
+    wire::put(out, 6, &s.board.tad.to_be_bytes());
+    wire::put(out, 10, &s.settings.od.to_be_bytes());
+    wire::put(out, 12, &s.settings.frequency.to_be_bytes());
+    wire::put(out, 16, &s.settings.power.to_be_bytes());
+    wire::put(out, 18, &s.count.next.to_be_bytes());
     wire::put(out, 20, &[s.waiting.pending]);
     wire::put(out, 21, &[s.count.index]);
-    wire::put(out, 22, &wire::bytes_32(s.waiting.sts));
-    wire::put(out, 26, &wire::bytes_32(s.waiting.md));
+    wire::put(out, 22, &s.waiting.sts.to_be_bytes());
+    wire::put(out, 26, &s.waiting.md.to_be_bytes());
 }
 
 // Saves a slave into the first bytes of a lent buffer; a refusal leaves it as it was.
@@ -53,9 +49,9 @@ pub fn save(s: Slave, out: &mut [u8]) -> Result<(), Refusal>
         return Err(Refusal::OutputLength);
     }
     put_body(out, s);
-    wire::put(out, BODY_LENGTH, &wire::bytes_16(s.board.site));
+    wire::put(out, BODY_LENGTH, &s.board.site.to_be_bytes());
     // `as` is proved to lose nothing
-    wire::put(out, BODY_LENGTH + 2, &wire::bytes_16(BODY_LENGTH as u16));
+    wire::put(out, BODY_LENGTH + 2, &(BODY_LENGTH as u16).to_be_bytes());
     check_value::seal(out, BLOCK_LENGTH - wire::CHECK_LENGTH);
     Ok(())
 }
@@ -73,8 +69,8 @@ fn slave_in(b: &[u8]) -> Slave
             tad: wire::number32_at(b, 6),
         },
         settings: Settings {
-            od: wire::signed_16(wire::number16_at(b, 10)),
-            frequency: wire::signed_32(wire::number32_at(b, 12)),
+            od: wire::number16_at(b, 10).cast_signed(),
+            frequency: wire::number32_at(b, 12).cast_signed(),
             power: wire::number16_at(b, 16),
         },
         count: Count {

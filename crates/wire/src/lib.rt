@@ -2,8 +2,8 @@
 #![tactic(auto)]
 
 ghost use Rattle.std.specs.Prelude.{◌≡◌, ◌+◌, ◌≤◌, ◌<◌, length, get_or, slice_index, EachIndex};
-ghost use Rattle.wire.specs.BigEndian.{be16_at, be24_at, be32_at, byte0, bytes16, bytes32};
-ghost use Rattle.wire.specs.Signed.{signed, signed16, signed24, signed32, bits16, bits32};
+ghost use Rattle.wire.specs.BigEndian.{be16_at, be24_at, be32_at};
+ghost use Rattle.wire.specs.Signed.{signed24};
 ghost use Rattle.wire.specs.Put.{put_at};
 ghost use Rattle.wire.specs.Reply.{refusal_number};
 
@@ -95,36 +95,6 @@ pub fn number32_at(b: &[u8], i: usize) -> u32
     u32::from_be_bytes(bytes_at(b, i))
 }
 
-// The lowest byte of a number. No call here has need of it; what it promises stands for who links the library.
-pub fn low_byte(w: u32) -> u8
-    ensures { result ≡ byte0 w }
-{
-    let [.., low] = w.to_be_bytes();
-    low
-}
-
-// The bytes of a number of 16 bits. Here and below: what one generic function would do, the library's method does, for each type. A name for each size says
-// it in the definition's word, so that who calls it has nothing to prove.
-pub fn bytes_16(w: u16) -> [u8; 2]
-    ensures { result ≡ bytes16 w }
-{
-    u16::to_be_bytes(w)
-}
-
-// The bytes of a number of 32 bits.
-pub fn bytes_32(w: u32) -> [u8; 4]
-    ensures { result ≡ bytes32 w }
-{
-    u32::to_be_bytes(w)
-}
-
-// The signed number that 16 bits mean.
-pub fn signed_16(v: u16) -> i16
-    ensures { result ≡ signed16 v }
-{
-    u16::cast_signed(v)
-}
-
 // The signed number that 24 bits mean; -1 beyond them. No type has 24 bits, so the library has no cast for them; `as` is proved to lose nothing.
 pub fn signed_24(v: u32) -> i32
     ensures { result ≡ signed24 v }
@@ -136,27 +106,6 @@ pub fn signed_24(v: u32) -> i32
     } else {
         -1
     }
-}
-
-// The signed number that 32 bits mean.
-pub fn signed_32(v: u32) -> i32
-    ensures { result ≡ signed32 v }
-{
-    u32::cast_signed(v)
-}
-
-// The 16 bits of a signed number.
-pub fn bits_16(z: i16) -> u16
-    ensures { result ≡ bits16 z }
-{
-    i16::cast_unsigned(z)
-}
-
-// The 32 bits of a signed number.
-pub fn bits_32(z: i32) -> u32
-    ensures { result ≡ bits32 z }
-{
-    i32::cast_unsigned(z)
 }
 
 // Puts all of src into dst from byte `at` on; puts nothing where src does not fit.
