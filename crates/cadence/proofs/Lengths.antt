@@ -2,7 +2,7 @@
 use mathlib.Core.Path.{◌≡◌, refl, sym, ◌∙◌}
 use mathlib.Core.Bool.{Bool, true, false, ◌||◌, false≢true}
 use mathlib.Core.List.{List, [], ◌∷◌}
-use Prim.Native.Nat.{ℕ, zero, suc, ◌*◌, ◌/◌, ◌^◌, ◌≤◌, ◌<◌}
+use Prim.Native.Nat.{ℕ, zero, suc, ◌*◌, ◌≤◌}
 use native.Mathlib.Omega.{arith}
 use lib.Dec.{eqb}
 use borrow.Author.Tests.{eqb-true, ne_eqb}
@@ -35,11 +35,6 @@ exact = pair _ (omega arith)
 
 pub length_range : (c : Constellation) (r : CodeRate) → (2016 ≤ length_of c r) × (length_of c r ≤ 10_584)
 length_range = pair _ (omega arith)
-
--- each step on the way to it fits its width, for any base up to 10,000
-module _ (base : ℕ) (h : base ≤ 10_000) where
-  pub steps_fit : (c : Constellation) (r : CodeRate) → (base * bits_of c < 2 ^ 32) × (base * bits_of c * numerator_of r < 2 ^ 32) × (0 < denominator_of r) × (base * bits_of c * numerator_of r / denominator_of r < 2 ^ 16)
-  steps_fit = pair _ (omega arith, omega arith, omega arith)
 
 -- ---- profile 0 admits these lengths, and no other
 

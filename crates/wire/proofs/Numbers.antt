@@ -8,7 +8,7 @@ use lib.Pow.{shr-shr}
 use lib.Dec.{ltb}
 use lib.IntN.{ℤ, pos, negsuc}
 use lib.Signed.{mag}
-use borrow.Author.Tests.{lt-ltb, le-ltb, ltb-true, ltb-false}
+use borrow.Author.Tests.{lt-ltb, le-ltb, ltb-false}
 use Rattle.wire.specs.BigEndian.{be16, be24, be32, byte0, byte1, byte2, byte3}
 use Rattle.wire.specs.Signed.{signed, bits}
 
@@ -35,16 +35,12 @@ module _ (a b : ℕ) (ha : a < 256) (hb : b < 256) where
         → (byte3 (be32 a b c d) ≡ a) × (byte2 (be32 a b c d) ≡ b) × (byte1 (be32 a b c d) ≡ c) × (byte0 (be32 a b c d) ≡ d)
     of32 d hd = omega arith
 
--- a signed number is the one that its bits mean, and they are below the whole range
+-- a signed number is the one that its bits mean
 module _ (half : ℕ) where
   pub signed_bits : (z : ℤ) → mag z < half → signed half (half + half) (bits (half + half) z) ≡ z
   signed_bits (pos n) h = rw (lt-ltb n half h)
   signed_bits (negsuc n) h =
       rw (le-ltb (half + half - 1 - n) half (omega arith)) (ap negsuc (omega arith))
-
-  pub bits_below : (z : ℤ) → mag z < half → bits (half + half) z < half + half
-  bits_below (pos n) h = omega arith
-  bits_below (negsuc n) h = omega arith
 
   -- and bits are those of the number that they mean
   pub bits_signed : (v : ℕ) → v < half + half → bits (half + half) (signed half (half + half) v) ≡ v
@@ -52,12 +48,4 @@ module _ (half : ℕ) where
     where
       go : (t : Bool) → ltb v half ≡ t → bits (half + half) (cond t (pos v) (negsuc (half + half - 1 - v))) ≡ v
       go true e = refl
-      go false e = omega (arith, ltb-false v half e)
-
-  -- which is as small as its width says
-  pub signed_small : (v : ℕ) → v < half + half → mag (signed half (half + half) v) < half
-  signed_small v h = go (ltb v half) refl
-    where
-      go : (t : Bool) → ltb v half ≡ t → mag (cond t (pos v) (negsuc (half + half - 1 - v))) < half
-      go true e = omega (arith, ltb-true v half e)
       go false e = omega (arith, ltb-false v half e)
