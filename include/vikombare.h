@@ -45,9 +45,10 @@
 extern "C" {
 #endif
 
-/* The version of this interface. MAJOR rises where a program has to be changed or compiled anew, MINOR where something is added. */
+/* The version of this interface. MAJOR rises where a program has to be changed or compiled anew, MINOR where something is added, or where a call gives
+ * another of the answers that programs already handle. 2.1: a time that was a whole second is 0. */
 #define VIKOMBARE_VERSION_MAJOR 2
-#define VIKOMBARE_VERSION_MINOR 0
+#define VIKOMBARE_VERSION_MINOR 1
 
 /* An answer that must not be thrown away: it says what to do. The compiler warns where one is. */
 #if (defined(__cplusplus) && __cplusplus >= 201703L) || (defined(__STDC_VERSION__) && __STDC_VERSION__ >= 202311L)
@@ -167,8 +168,7 @@ typedef struct {
     vikombare_waiting waiting;
 } vikombare_slave;
 
-/* When a mark goes on air, profile 0. Times are after the pulse, 0 to a second; a whole second is the next pulse itself, which a timer that counts 0 to
- * VIKOMBARE_DVB_SECOND - 1 takes as 0. */
+/* When a mark goes on air, profile 0. Times are after the pulse, 0 to VIKOMBARE_DVB_SECOND - 1: a mark on the pulse has time 0. */
 typedef struct {
     vikombare_steps reference;  /* reference emission time: the same at every site */
     vikombare_steps emission;   /* this site's, with its offset delay */
@@ -176,7 +176,7 @@ typedef struct {
     int64_t wait;               /* steps to hold the mark from its arrival, 0 to a second - 1 */
 } vikombare_dvb_times;
 
-/* The same, profile 1. */
+/* The same, profile 1: 0 to VIKOMBARE_A110_SECOND - 1. */
 typedef struct {
     vikombare_periods reference;
     vikombare_periods emission;

@@ -151,6 +151,7 @@ impl Comparison<Basics> {
         if number == 0 {
             self.saw(whose, "released, STS + MD", sts + md);
             self.saw(whose, "released, STS + MD + OD", sts + md + od);
+            self.saw(whose, "released, STS + MD + OD - TAD", sts + md + od - tad);
             self.saw(whose, "released, OD", od);
             self.saw(whose, "released, modulation", reply.mark.times.modulation);
             self.saw(whose, "released, TAD", tad);
@@ -448,7 +449,8 @@ fn required() -> Cases {
             (whose, "wait", vec![-1, 0, 1]),
             (whose, "released, STS + MD", vec![u - 1, u, u + 1]),
             (whose, "released, STS + MD + OD", vec![u - 1, u, u + 1]),
-            (whose, "released, modulation", vec![0, u - 1, u]),
+            (whose, "released, STS + MD + OD - TAD", vec![u - 1, u, u + 1]),
+            (whose, "released, modulation", vec![0, u - 1]),
             (whose, "released, OD", vec![-32_768, -1, 0, 32_767]),
             (whose, "released, TAD", vec![0, 1]),
         ]);

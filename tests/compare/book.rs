@@ -261,7 +261,7 @@ impl Listener {
             // the adapter's notice for this mark stood before it
             let (sts, md) = self.book.adapter.times_after(place - 1);
             let sum = sts + md;
-            let reference = if sum > second(profile) { sum - second(profile) } else { sum };
+            let reference = if sum >= second(profile) { sum - second(profile) } else { sum };
             if exact && u == 0 {
                 hold("label and reference time told exactly", (adapters_label, reply.mark.times.reference), (0, reference))?;
                 saw("told exactly, released in profile", profile.into());

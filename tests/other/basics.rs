@@ -1,5 +1,5 @@
 //! The basics, which keep no state and on which the slave stands: the check value, notices read and written, the addressing field, the times of a
-//! mark, and the cadence. From document 01 and ETSI TS 101 191.
+//! mark, and the cadence. From document 01, Paper 2 of document 02, and ETSI TS 101 191.
 
 use super::faults::{rule, Fault::*};
 
@@ -238,11 +238,14 @@ pub fn delay_fits(profile: u8, md: u32, od: i16, tad: u32) -> bool {
 pub fn release(profile: u8, sts: u32, md: u32, od: i16, tad: u32, arrival: u32) -> Option<Times> {
     let [second, sts, md, tad, arrival] = [second(profile), sts, md, tad, arrival].map(i64::from);
     let od = i64::from(od);
-    // A sum that exceeds U loses U, once; one equal to U stays.
-    let reduced = |sum: i64| if rule(sum > second, EqualSumLosesSecond, sum >= second) { sum - second } else { sum };
-    let reference = reduced(sts + md);
-    let emission = reduced(rule(sts + md, OffsetOnReducedSum, reference) + od);
-    let modulation = if emission < tad { emission - tad + second } else { emission - tad };
+    // A sum equal to U or above it loses U, once (02, Paper 2).
+    let reduced = |sum: i64, reaches: bool| if reaches { sum - second } else { sum };
+    let sum = sts + md;
+    let reference = reduced(sum, rule(sum >= second, ReferenceOfASecond, sum > second));
+    let sum = rule(sum, OffsetOnReducedSum, reference) + od;
+    let emission = reduced(sum, rule(sum >= second, EmissionOfASecond, sum > second));
+    let negative = rule(emission < tad, ModulationOfASecond, emission <= tad);
+    let modulation = if negative { emission - tad + second } else { emission - tad };
     let link_delay = rule((arrival - sts).rem_euclid(second), LinkDelayNotReduced, arrival - sts);
     let wait = md + od - tad - link_delay;
     let wait = rule(wait, WaitModuloSecond, wait.rem_euclid(second));

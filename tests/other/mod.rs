@@ -1,5 +1,6 @@
-//! The other implementation of document 01, written from the papers alone: it shares no code with the proved crates, which are compared with it.
-//! An error is document 01's number of the refusal. `rule(right, fault, wrong)` is `right` unless that fault is seeded.
+//! The other implementation of document 01 with what document 02 changed, written from the papers alone: it shares no code with the proved crates,
+//! which are compared with it.
+//! An error is the papers' number of the refusal. `rule(right, fault, wrong)` is `right` unless that fault is seeded.
 
 pub mod basics;
 pub mod faults;

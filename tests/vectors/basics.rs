@@ -197,6 +197,18 @@ fn releases(v: &mut Vectors) {
     v.release("P4", 0, [9_300_000, 700_000, 0, 9_300_000], 0);
     v.release("P5", 0, [9_999_000, 1_100, 200, 9_999_500], 0);
     v.release("P6", 1, [19_392_657, 63_740, 1_000, 19_392_657], -32_768);
+    // Sums of U − 1, U and U + 1 for each time; each of the other two times has a sum of its own.
+    for (profile, sts) in [(0, 9_999_000), (1, 19_391_658)] {
+        for (name, md) in [("a reference sum of U − 1", 999), ("a reference sum of U", 1_000), ("a reference sum of U + 1", 1_001)] {
+            v.release(name, profile, [sts, md, 100, sts], 10);
+        }
+        for (name, od) in [("an emission sum of U − 1", -101), ("an emission sum of U", -100), ("an emission sum of U + 1", -99)] {
+            v.release(name, profile, [sts, 1_100, 100, sts], od);
+        }
+        for (name, tad) in [("a modulation sum of U − 1", 101), ("a modulation sum of U", 100), ("a modulation sum of U + 1", 99)] {
+            v.release(name, profile, [sts, 1_200, tad, sts], -100);
+        }
+    }
     v.release("arrival 10,000,000", 0, [9_500_000, 700_000, 0, 10_000_000], 0);
     v.release("arrival 19,392,658", 1, [0, 700_000, 0, 19_392_658], 0);
     v.release("STS 10,000,000", 0, [10_000_000, 700_000, 0, 0], 0);

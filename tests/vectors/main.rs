@@ -1,6 +1,6 @@
-//! Vectors: document 01's examples, published values, and notices and blocks made by hand, each by a call of the proved code.
+//! Vectors: the papers' examples, published values, and notices and blocks made by hand, each by a call of the proved code.
 //! It prints one line for each: a name, the input in short, and what the call gave. tests/vectors/vectors.txt has what the papers say, reckoned by hand from
-//! document 01 and TS 101 191; the two must be the same. After a slave's call stand the parts of the slave that it changed.
+//! documents 01 and 02 and TS 101 191; the two must be the same. After a slave's call stand the parts of the slave that it changed.
 //!
 //! vectors        the proved code
 //! vectors other  the other implementation

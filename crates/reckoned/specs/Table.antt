@@ -1,8 +1,8 @@
--- The reckoned examples of document 01, each with what the definitions compute for it and what the paper states.
+-- The reckoned examples of document 01, each with what the definitions compute for it and what the papers state: P4 as document 02 has it.
 use Rattle.std.specs.Prelude.{ℕ, ◌≡◌, List, [], ◌∷◌, map, ℤ, pos, negsuc}
 use Rattle.wire.specs.Standards.{dvb_second, a110_second}
 use Rattle.check_value.specs.Register.{register}
-use Rattle.times.specs.Release.{emission, modulation, wait_of, due_of}
+use Rattle.times.specs.Release.{reference, emission, modulation, wait_of, due_of}
 use Rattle.cadence.specs.Cadence.{length_of}
 use Rattle.cadence.specs.Label.{label_of}
 use Rattle.cadence.specs.MobileFrame.{mobile_place}
@@ -15,7 +15,7 @@ use Rattle.slave.specs.Answer.{due, mark_number}
 use Rattle.slave.specs.Step.{locked_at}
 use Rattle.slave.specs.Gap.{gapped}
 
--- an example's number, the values that the definitions compute, and those that the paper states
+-- an example's number, the values that the definitions compute, and those that its paper states
 pub record Example : Type 0 where
   pub number : ℕ
   pub computed : List ℤ
@@ -52,10 +52,10 @@ table =
     ∷ example 3
     (pos (number_at 200_001) ∷ pos (number_at 200_000) ∷ [])
     (pos 14 ∷ pos 0 ∷ [])
-    -- STS 9,300,000, MD 700,000, OD 0: emission
+    -- STS 9,300,000, MD 700,000, OD 0: reference and emission (Paper 2)
     ∷ example 4
-    (pos (emission dvb_second 9_300_000 700_000 (pos 0)) ∷ [])
-    (pos 10_000_000 ∷ [])
+    (pos (reference dvb_second 9_300_000 700_000) ∷ pos (emission dvb_second 9_300_000 700_000 (pos 0)) ∷ [])
+    (pos 0 ∷ pos 0 ∷ [])
     -- STS 9,999,000, MD 1,100, OD 0, TAD 200, arrival 9,999,500: modulation and wait
     ∷ example 5
     (pos (modulation dvb_second (emission dvb_second 9_999_000 1_100 (pos 0)) 200) ∷ wait_of dvb_second 9_999_000 1_100 (pos 0) 200 9_999_500 ∷ [])

@@ -1,5 +1,5 @@
-// The times of a mark whose notice waits (document 01, "Release"). The limits are known to hold: the slave is sound, and the arrival tick is one of its
-// second.
+// The times of a mark whose notice waits (document 01, "Release"; document 02, Paper 2). The limits are known to hold: the slave is sound, and the arrival
+// tick is one of its second.
 ghost use Rattle.std.specs.Prelude.{◌≡◌, true, ◌+◌, ◌<◌, ◌^◌};
 ghost use Rattle.times.specs.Answer.{number, times_in};
 ghost use Rattle.times.specs.Release.{wrap, reference, emission, modulation, link_delay, wait, delay_fits, times_of, due_of};
@@ -28,12 +28,12 @@ struct Arrival {
     ghost tick_less: { tick < u },
 }
 
-// A sum that exceeds u loses u.
+// A sum of u or more loses u.
 #[tactic(auto, unfolding(times::specs::Release::wrap))]
 fn wrapped(u: u32, x: u32) -> u32
     ensures { result ≡ wrap u x }
 {
-    if u < x { x - u } else { x }
+    if x < u { x } else { x - u }
 }
 
 impl Arrival {

@@ -8,27 +8,19 @@ use Rattle.times.specs.Whole.{plus, within}
 use Rattle.times.specs.Release.{wrap, modulation, link_delay, wait, negative, delay_fits, delay_fits_a110}
 use Rattle.times.proofs.Whole.{plus_is, congruent, residue_less, residue_is}
 
--- ---- a sum that exceeds u loses u
+-- ---- a sum of u or more loses u
 module _ (u x : ℕ) where
-  pub wrap_over : u < x → wrap u x ≡ x - u
+  pub wrap_less : x < u + u → wrap u x < u
   unfolding wrap
-  wrap_over h = grind (arith, nat_tests)
-
-  pub wrap_stays : x ≤ u → wrap u x ≡ x
-  unfolding wrap
-  wrap_stays h = grind (arith, nat_tests)
-
-  pub wrap_most : x ≤ u + u → wrap u x ≤ u
-  unfolding wrap
-  wrap_most h = grind (arith, nat_tests)
+  wrap_less h = grind (arith, nat_tests)
 
   -- it lost u, or nothing
-  wrap_whole : wrap u x + cond (ltb u x) 1 0 * u ≡ x
+  wrap_whole : wrap u x + cond (ltb x u) 0 1 * u ≡ x
   unfolding wrap
   wrap_whole = grind (arith, nat_tests)
 
   pub wrap_residue : wrap u x % u ≡ x % u
-  wrap_residue = congruent u (wrap u x) x (cond (ltb u x) 1 0) 0 (omega (arith, wrap_whole))
+  wrap_residue = congruent u (wrap u x) x (cond (ltb x u) 0 1) 0 (omega (arith, wrap_whole))
 
 -- ---- emission less TAD, plus u if negative
 module _ (u e tad : ℕ) where
@@ -40,9 +32,9 @@ module _ (u e tad : ℕ) where
   unfolding modulation
   modulation_over h = grind (arith, nat_tests)
 
-  pub modulation_most : e ≤ u → modulation u e tad ≤ u
+  pub modulation_less : e < u → modulation u e tad < u
   unfolding modulation
-  modulation_most h = grind (arith, nat_tests)
+  modulation_less h = grind (arith, nat_tests)
 
   modulation_whole : tad ≤ u → modulation u e tad + tad ≡ e + cond (ltb e tad) 1 0 * u
   unfolding modulation

@@ -1,7 +1,6 @@
 -- What holds of the times of a release, for a second of u units.
--- Their ranges, where the wait ends, when a mark is late, and one reference time for all sites.
-use Rattle.std.proofs.Common.{◌≡◌, sym, ap, ◌∙◌, subst, true, false, ℕ, ◌+◌, ◌-◌, ◌/◌, ◌%◌, ◌≤◌, ◌<◌, arith, ℤ, pos, ◌+ℤ◌}
-use native.Mathlib.Nat.{mod-lt, mod-mod}
+-- Their ranges, what they are modulo u, where the wait ends, when a mark is late, and one reference time for all sites.
+use Rattle.std.proofs.Common.{◌≡◌, sym, ap, ◌∙◌, subst, true, false, ℕ, ◌+◌, ◌-◌, ◌/◌, ◌%◌, ◌≤◌, ◌<◌, arith, ℤ, pos, ◌+ℤ◌, ◌-ℤ◌}
 use lib.Dec.{ltb}
 use lib.Signed.{lt_z}
 use borrow.Author.Differences.{up, down}
@@ -9,17 +8,23 @@ use Rattle.std.proofs.lemmas.Int.{ints}
 use Rattle.times.specs.Whole.{plus, residue}
 use Rattle.times.specs.Release.{wrap, reference, emission, modulation, link_delay, wait, negative, delay_fits, Times, released, wait_of, times_of, due_of, Kept}
 use Rattle.times.proofs.Whole.{Diff, congruent, differ, residue_only}
-use Rattle.times.proofs.Formulas.{wrap_most, wrap_residue, modulation_most, modulation_residue, link_residue, delay_less, delay_whole, sum_apart, sum_whole, late_is}
+use Rattle.times.proofs.Formulas.{wrap_less, wrap_residue, modulation_less, modulation_residue, link_residue, delay_less, delay_whole, sum_apart, sum_whole, late_is}
 use Rattle.times.proofs.Answers.{Passed, passed}
 
 -- ---- ranges
 pub record InRange (u : ℕ) (t : Times) : Type 0 where
-  pub reference_most : t.reference ≤ u
-  pub emission_most : t.emission ≤ u
-  pub modulation_most : t.modulation ≤ u
+  pub reference_less : t.reference < u
+  pub emission_less : t.emission < u
+  pub modulation_less : t.modulation < u
+
+-- each time is its sum modulo u
+pub record Residues (u sts md : ℕ) (od : ℤ) (tad : ℕ) (t : Times) : Type 0 where
+  pub reference_is : t.reference ≡ residue u (pos sts +ℤ pos md)
+  pub emission_is : t.emission ≡ residue u (pos sts +ℤ pos md +ℤ od)
+  pub modulation_is : t.modulation ≡ residue u (pos sts +ℤ pos md +ℤ od -ℤ pos tad)
 
 -- the wait is a natural number of units, at most MD + OD, which is within the second; held so long from the arrival tick on, the mark ends
--- at its modulation time, modulo u
+-- at its modulation time
 pub record Waits (u md : ℕ) (od : ℤ) (arrival : ℕ) (t : Times) : Type 0 where
   pub units : ℕ
   pub wait_is : t.wait ≡ pos units
@@ -27,41 +32,60 @@ pub record Waits (u md : ℕ) (od : ℤ) (arrival : ℕ) (t : Times) : Type 0 wh
   pub delay_is : pos md +ℤ od ≡ pos delay
   pub at_most : units ≤ delay
   pub is_in_second : delay < u
-  pub ends : (arrival + units) % u ≡ t.modulation % u
+  pub ends : (arrival + units) % u ≡ t.modulation
 
 module _ (u sts md : ℕ) (od : ℤ) (fits : delay_fits u md od ≡ true) where
-  pub emission_most : sts < u → emission u sts md od ≤ u
-  emission_most h = wrap_most u (plus (sts + md) od) (omega (arith, sum_apart u md od fits sts, delay_less u md od fits))
+  pub emission_less : sts < u → emission u sts md od < u
+  emission_less h = wrap_less u (plus (sts + md) od) (omega (arith, sum_apart u md od fits sts, delay_less u md od fits))
 
   pub times_range : (tad arrival : ℕ) → sts < u → md < u → InRange u (times_of u sts md od tad arrival)
   times_range tad arrival h k =
       record {
-        reference_most = wrap_most u (sts + md) (omega arith);
-        emission_most = emission_most h;
-        modulation_most = modulation_most u (emission u sts md od) tad (emission_most h);
+        reference_less = wrap_less u (sts + md) (omega arith);
+        emission_less = emission_less h;
+        modulation_less = modulation_less u (emission u sts md od) tad (emission_less h);
       }
 
-  -- ---- where the wait ends: from the arrival tick on, at the modulation time, modulo u
+  -- ---- the times modulo u
+  pub times_residues : (tad arrival : ℕ) → sts < u → md < u → tad < u → Residues u sts md od tad (times_of u sts md od tad arrival)
+  times_residues tad arrival h k g =
+      let x = plus (sts + md) od in
+      let e = wrap u x in
+      let some : 0 < u = omega arith in
+      let nought : (n : ℕ) → (n + 0) % u ≡ n % u = λ n. ap (λ (k : ℕ). k % u) (omega arith) in
+      let r : Diff (pos sts +ℤ pos md) (sts + md) 0 = record { is = omega (arith, ints) } in
+      let s : Diff (pos sts +ℤ pos md +ℤ od) x 0 = record { is = omega (arith, ints, sum_whole u md od fits sts) } in
+      let m : Diff (pos sts +ℤ pos md +ℤ od -ℤ pos tad) x tad = record { is = omega (arith, ints, sum_whole u md od fits sts) } in
+      record {
+        reference_is = sym (residue_only some r (wrap u (sts + md)) (wrap_less u (sts + md) (omega arith)) (nought _ ∙ wrap_residue u (sts + md)));
+        emission_is = sym (residue_only some s e (emission_less h) (nought _ ∙ wrap_residue u x));
+        modulation_is =
+            sym (residue_only some m (modulation u e tad) (modulation_less u e tad (emission_less h))
+            (modulation_residue u e tad (omega arith) ∙ wrap_residue u x));
+      }
+
+  -- ---- where the wait ends: from the arrival tick on, at the modulation time
   pub wait_ends :
-      (tad arrival : ℕ) → tad < u
-      → residue u (pos arrival +ℤ wait_of u sts md od tad arrival) ≡ modulation u (emission u sts md od) tad % u
-  wait_ends tad arrival h =
+      (tad arrival : ℕ) → sts < u → tad < u
+      → residue u (pos arrival +ℤ wait_of u sts md od tad arrival) ≡ modulation u (emission u sts md od) tad
+  wait_ends tad arrival h g =
       let x = plus (sts + md) od in
       let e = wrap u x in
       let m = modulation u e tad in
       let l = link_delay u arrival sts in
       let some : 0 < u = omega arith in
-      let c₁ = differ u (m % u) m (mod-mod m u) in
-      let c₂ = differ u (m + tad) e (modulation_residue u e tad (omega arith)) in
-      let c₃ = differ u e x (wrap_residue u x) in
-      let c₄ = differ u (l + sts) arrival (link_residue u arrival sts some) in
+      let c₁ = differ u (m + tad) e (modulation_residue u e tad (omega arith)) in
+      let c₂ = differ u e x (wrap_residue u x) in
+      let c₃ = differ u (l + sts) arrival (link_residue u arrival sts some) in
       let d : Diff (pos arrival +ℤ wait md od tad l) (arrival + x) (sts + tad + l) = record { is = omega (arith, ints, sum_whole u md od fits sts) } in
-      residue_only some d (m % u) (mod-lt m some)
-      (congruent u _ _ (m / u + e / u + x / u + arrival / u) (m % u / u + (m + tad) / u + e / u + (l + sts) / u) (omega arith))
+      residue_only some d m (modulation_less u e tad (emission_less h))
+      (congruent u _ _ (e / u + x / u + arrival / u) ((m + tad) / u + e / u + (l + sts) / u) (omega arith))
 
   -- ---- a wait that is not late
-  pub waits : (tad arrival : ℕ) → tad < u → negative (wait_of u sts md od tad arrival) ≡ false → Waits u md od arrival (times_of u sts md od tad arrival)
-  waits tad arrival h in_time =
+  pub waits :
+      (tad arrival : ℕ) → sts < u → tad < u → negative (wait_of u sts md od tad arrival) ≡ false
+      → Waits u md od arrival (times_of u sts md od tad arrival)
+  waits tad arrival h g in_time =
       let w = wait_of u sts md od tad arrival in
       let whole : w ≡ pos (up w - down w) = omega (arith, ints) in
       record {
@@ -71,7 +95,7 @@ module _ (u sts md : ℕ) (od : ℤ) (fits : delay_fits u md od ≡ true) where
         delay_is = sym (delay_whole u md od fits);
         at_most = omega (arith, ints, delay_whole u md od fits);
         is_in_second = delay_less u md od fits;
-        ends = sym (ap (λ (z : ℤ). residue u (pos arrival +ℤ z)) whole) ∙ wait_ends tad arrival h;
+        ends = sym (ap (λ (z : ℤ). residue u (pos arrival +ℤ z)) whole) ∙ wait_ends tad arrival h g;
       }
 
   -- ---- late exactly when MD + OD is over before the link delay and TAD are
@@ -91,8 +115,11 @@ module _ (u sts md : ℕ) (od : ℤ) (tad arrival : ℕ) (t : Times) (answer : d
     pub released_range : InRange u t
     released_range = subst (InRange u) has.times_are (times_range u sts md od k.delay_in_second tad arrival k.sts_less k.md_less)
 
+    pub released_residues : Residues u sts md od tad t
+    released_residues = subst (Residues u sts md od tad) has.times_are (times_residues u sts md od k.delay_in_second tad arrival k.sts_less k.md_less k.tad_less)
+
     pub released_waits : Waits u md od arrival t
-    released_waits = subst (Waits u md od arrival) has.times_are (waits u sts md od k.delay_in_second tad arrival k.tad_less has.in_time)
+    released_waits = subst (Waits u md od arrival) has.times_are (waits u sts md od k.delay_in_second tad arrival k.sts_less k.tad_less has.in_time)
 
 -- two sites that release a mark of one STS and MD give it one reference time
 pub one_reference :

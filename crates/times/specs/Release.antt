@@ -1,12 +1,12 @@
 -- The times of a release for a second of u units, and the limits that they keep.
--- Document 01, "Two clocks" and "Release", refusals 3, 11, 13 and 14; A/110 6.4.2 and 6.4.5.
+-- Document 01, "Two clocks" and "Release", refusals 3, 11, 13 and 14; document 02, Paper 2; A/110 6.4.2 and 6.4.5.
 use Rattle.std.specs.Prelude.{◌≡◌, Bool, true, cond, ◌&&◌, ℕ, ◌+◌, ◌-◌, ◌<◌, ltb, ℤ, pos, ◌+ℤ◌, ◌-ℤ◌}
 use Rattle.std.specs.Int.Signed.{lt_z}
 use Rattle.times.specs.Whole.{plus, residue, within}
 
--- a sum that exceeds u loses u; one equal to u stays (A/110 6.4.5)
+-- a sum of u or more loses u (Paper 2)
 unfoldable pub wrap : ℕ → ℕ → ℕ
-wrap u x = cond (ltb u x) (x - u) x
+wrap u x = cond (ltb x u) x (x - u)
 
 -- R, the reference emission time: STS + MD
 abbrev pub reference : ℕ → ℕ → ℕ → ℕ

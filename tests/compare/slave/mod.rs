@@ -94,9 +94,12 @@ fn required() -> Cases {
         list.push((whose, "tick", vec![0, u - 1, u]));
         list.push((whose, "released at tick", vec![0, u - 1]));
         list.push((whose, "wait", vec![-1, 0, 1]));
-        list.push((whose, "reference", vec![u - 1, u]));
-        list.push((whose, "emission", vec![u - 1, u]));
-        list.push((whose, "modulation", vec![0, u - 1, u]));
+        for sum in ["released, STS + MD", "released, STS + MD + OD", "released, STS + MD + OD - TAD"] {
+            list.push((whose, sum, vec![u - 1, u, u + 1]));
+        }
+        list.push((whose, "reference", vec![0, u - 1]));
+        list.push((whose, "emission", vec![0, u - 1]));
+        list.push((whose, "modulation", vec![0, u - 1]));
     }
     list
 }

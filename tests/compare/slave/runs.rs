@@ -132,7 +132,13 @@ impl Comparison<Calls> {
         }
         if mark >= 2 {
             let [u, sts, md, tad, arrival] = [second(before.profile), before.sts, before.md, before.tad, tick].map(i64::from);
-            self.saw(whose, "wait", md + i64::from(before.od) - tad - (arrival - sts).rem_euclid(u));
+            let od = i64::from(before.od);
+            self.saw(whose, "wait", md + od - tad - (arrival - sts).rem_euclid(u));
+            if mark == 3 {
+                self.saw(whose, "released, STS + MD", sts + md);
+                self.saw(whose, "released, STS + MD + OD", sts + md + od);
+                self.saw(whose, "released, STS + MD + OD - TAD", sts + md + od - tad);
+            }
         }
         if mark == 3 {
             self.saw(whose, "reference", reply.mark.times.reference);
