@@ -45,8 +45,8 @@
 extern "C" {
 #endif
 
-/* The version of this interface. MAJOR rises where a program has to be changed or compiled anew, MINOR where something is added, or where a call gives
- * another of the answers that programs already handle. 2.1: a time that was a whole second is 0. */
+/* The version of this interface. MAJOR rises where a program has to be changed or compiled anew, MINOR where it has not: something is added, or a call
+ * gives another value. 2.1: a time that was a whole second is 0. */
 #define VIKOMBARE_VERSION_MAJOR 2
 #define VIKOMBARE_VERSION_MINOR 1
 

@@ -1,4 +1,4 @@
-//! The other implementation of document 01 with what document 02 changed, written from the papers alone: it shares no code with the proved crates,
+//! The other implementation of document 01 with what of document 02 is in, written from the papers alone: it shares no code with the proved crates,
 //! which are compared with it.
 //! An error is the papers' number of the refusal. `rule(right, fault, wrong)` is `right` unless that fault is seeded.
 

@@ -21,7 +21,7 @@ use Rattle.state.specs.Sound.{is_zero, frequency_fits, index_fits, is_nothing, w
 use Rattle.state.specs.declared.Board.{Board}
 use Rattle.state.specs.declared.Slave.{Slave}
 use Rattle.judging.specs.Judge.{arrival_refusal, carries, taken_refusal, limited, judge_mip, judge_arrived, judge_given}
-use Rattle.slave.specs.Answer.{Notice, absent, taken, slip, ignored, Mark, unmarked, untimed, due, Report}
+use Rattle.slave.specs.Answer.{Notice, absent, taken, slip, ignored, Mark, unmarked, untimed, due, Report, label_in, notice_in}
 use Rattle.slave.specs.Step.{release_at, mark_at, passed, unheard, counted, mark_taken, notice_taken, took, step_of}
 use Rattle.slave.specs.Gap.{gapped}
 use Rattle.slave.specs.Calls.{start_of, packet_of, numbers_of, gap_of}
@@ -29,7 +29,6 @@ use Rattle.run.specs.Adapter.{Adapter}
 use Rattle.run.specs.Book.{by_value, in_place, Arrival, packet, numbers, Call, at, gap, judged, Book, closed, verdict_at, untold, count_place, tell_gap, enter, enter_call, book_after}
 use Rattle.run.specs.Run.{hear, leave, slave_after, begun, places, Run}
 use Rattle.run.specs.Claim.{told_exactly, Timed}
-use Rattle.run.specs.Sentences.{label_in, notice_in}
 use Rattle.run.proofs.Sentences.{sentences}
 
 -- profile 1; in each cadence a notice at label 620. The first mark is after the pulse, by 42 units

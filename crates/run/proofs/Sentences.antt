@@ -13,12 +13,12 @@ use Rattle.times.specs.Release.{released}
 use Rattle.state.specs.Profile.{second}
 use Rattle.state.specs.declared.Board.{Board}
 use Rattle.judging.specs.Judgement.{Judgement, Counts, Takes}
-use Rattle.slave.specs.Answer.{Notice, taken, slip, due, Report}
+use Rattle.slave.specs.Answer.{Notice, taken, slip, due, Report, label_in, notice_in, mark_in}
 use Rattle.slave.proofs.Due.{unmarked_apart}
 use Rattle.run.specs.Adapter.{Adapter}
 use Rattle.run.specs.Book.{at, Book, untold}
 use Rattle.run.specs.Claim.{label_by, slip_by, Timed, Right, RightReply}
-use Rattle.run.specs.Sentences.{label_in, notice_in, mark_in, Sentence, InEveryRun, LabelWhereTaken, LabelElsewhere, SlipWhereUntold, TimeWhereTold, Sentences}
+use Rattle.run.specs.Sentences.{Sentence, InEveryRun, LabelWhereTaken, LabelElsewhere, SlipWhereUntold, TimeWhereTold, Sentences}
 use Rattle.run.proofs.Run.{timed_by, demand_3}
 
 -- ---- the parts of a right reply

@@ -1,7 +1,7 @@
 -- Demand 3 sentence by sentence, as a reader has it before them. Each is a consequence of the one claim, `Demand3`.
 use Rattle.std.specs.Prelude.{ℕ, ◌≡◌, Bool, true, List, ◌∷◌, ◌++◌, ℤ, pos, ◌-ℤ◌}
-use Rattle.std.proofs.Math.Option.{Option, none, some}
-use Rattle.wire.specs.Reply.{Reply, refused, given}
+use Rattle.std.proofs.Math.Option.{some}
+use Rattle.wire.specs.Reply.{Reply}
 use Rattle.times.specs.Whole.{residue}
 use Rattle.times.specs.Release.{Times, released}
 use Rattle.cadence.specs.Label.{label_at}
@@ -9,24 +9,11 @@ use Rattle.state.specs.Profile.{second}
 use Rattle.state.specs.declared.Board.{Board}
 use Rattle.judging.specs.declared.Taken.{Taken}
 use Rattle.judging.specs.Judgement.{Judgement, Counts, Takes}
-use Rattle.slave.specs.Answer.{Notice, absent, slip, Mark, unmarked, due, Report}
+use Rattle.slave.specs.Answer.{slip, due, Report, label_in, notice_in, mark_in}
 use Rattle.run.specs.Adapter.{Adapter}
 use Rattle.run.specs.Book.{Arrival, Call, at, Book, closed, opened, verdict_at, untold, book_after}
 use Rattle.run.specs.Run.{hear, slave_after, begun, Run}
 use Rattle.run.specs.Claim.{told_exactly, Timed, OneTime}
-
--- the parts of a reply; a refused packet has none
-abbrev pub label_in : Reply Report → Option ℕ
-label_in (refused k) = none
-label_in (given r) = r.label
-
-abbrev pub notice_in : Reply Report → Notice
-notice_in (refused k) = absent
-notice_in (given r) = r.notice
-
-abbrev pub mark_in : Reply Report → Mark
-mark_in (refused k) = unmarked
-mark_in (given r) = r.mark
 
 -- a sentence about a packet or numbers notice: the start's settings, the book before it, its place, the verdict on it, and the slave's reply
 abbrev pub Sentence : Type 1

@@ -1,5 +1,5 @@
 -- What a mark that is due shows of the slave: it counted label 0 with a notice pending, whose times these are, in the unit of its profile.
--- And what a mark that a call releases has, whatever the slave, the bytes and the tick.
+-- And what holds of every mark that a call releases, whatever the slave, the bytes and the tick.
 use mathlib.Core.Path.{◌≡◌, refl, subst}
 use mathlib.Core.Bool.{true}
 use mathlib.Core.List.{List}
@@ -7,7 +7,7 @@ use Prim.Native.Nat.{ℕ, zero, suc}
 use native.Mathlib.Omega.{arith}
 use lib.Dec.{eqb}
 use Rattle.std.proofs.lemmas.Bool.Decides.{nat_tests}
-use Rattle.wire.specs.Reply.{Reply, refused, given}
+use Rattle.wire.specs.Reply.{Reply}
 use Rattle.wire.proofs.Tests.{pick, split}
 use Rattle.times.specs.Release.{in_second, Times, Due, released, due_of}
 use Rattle.times.proofs.Laws.{InRange, Residues, Waits, released_range, released_residues, released_waits}
@@ -19,7 +19,7 @@ use Rattle.judging.specs.Judge.{unless_refused, arrival_refusal}
 use Rattle.judging.specs.Judgement.{Judgement, Refuse, Counts, Takes}
 use Rattle.judging.specs.declared.Numbers.{Numbers}
 use Rattle.judging.proofs.Judging.{arrived_tick}
-use Rattle.slave.specs.Answer.{Mark, unmarked, untimed, due, Report, Result}
+use Rattle.slave.specs.Answer.{unmarked, untimed, due, Report, mark_in, Result}
 use Rattle.slave.specs.Step.{release_at, mark_at, mark_taken, passed, unheard, counted, took, step_of}
 use Rattle.slave.specs.Calls.{packet_of, numbers_of}
 use Rattle.slave.proofs.Calling.{judged_call, packet_is, numbers_is}
@@ -55,29 +55,26 @@ module _ (profile : ℕ) (d : Due) where
         let v = untimed_apart in
         own_due (grind (arith, nat_tests))
 
--- ---- the mark in a reply; a refused call has none
-abbrev pub mark_in : Reply Report → Mark
-mark_in (refused k) = unmarked
-mark_in (given r) = r.mark
-
--- its times are below U, they are its notice's sums modulo U, and its wait ends on the modulation time
-pub record Within (s : Slave) (tick : ℕ) (t : Times) : Type 0 where
+-- ---- a released mark's times are in its profile's unit and below U, they are its notice's sums modulo U, and its wait ends on the modulation time
+pub record Within (s : Slave) (tick profile : ℕ) (t : Times) : Type 0 where
+  pub unit : profile ≡ s.board.profile
   pub range : InRange (second s.board.profile) t
   pub residues : Residues (second s.board.profile) s.waiting.sts s.waiting.md s.settings.od s.board.tad t
   pub waits : Waits (second s.board.profile) s.waiting.md s.settings.od tick t
 
 module _ (s : Slave) (tick profile : ℕ) (t : Times) where
   abbrev IfReleased : Reply Report → Type 0
-  IfReleased r = mark_in r ≡ due profile (released t) → Within s tick t
+  IfReleased r = mark_in r ≡ due profile (released t) → Within s tick profile t
 
-  no_mark : unmarked ≡ due profile (released t) → Within s tick t
+  no_mark : unmarked ≡ due profile (released t) → Within s tick profile t
   no_mark e = absurd (unmarked_apart profile (released t) e)
 
   module _ (ok : sound s ≡ true) (h : in_second (second s.board.profile) tick ≡ true) where
-    own_within : OwnDue s tick profile (released t) → Within s tick t
+    own_within : OwnDue s tick profile (released t) → Within s tick profile t
     own_within d =
         let k = pending_kept s ok d.locked (grind (arith, nat_tests)) tick h in
         record {
+          unit = d.unit;
           range = released_range _ _ _ _ _ _ t d.due_is k;
           residues = released_residues _ _ _ _ _ _ t d.due_is k;
           waits = released_waits _ _ _ _ _ _ t d.due_is k;

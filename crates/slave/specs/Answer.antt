@@ -43,6 +43,19 @@ pub record Report : Type 0 where
   pub mark : Mark
   pub place : Option ℕ
 
+-- the parts of a reply; a refused packet has none
+abbrev pub label_in : Reply Report → Option ℕ
+label_in (refused k) = none
+label_in (given r) = r.label
+
+abbrev pub notice_in : Reply Report → Notice
+notice_in (refused k) = absent
+notice_in (given r) = r.notice
+
+abbrev pub mark_in : Reply Report → Mark
+mark_in (refused k) = unmarked
+mark_in (given r) = r.mark
+
 -- what a call leaves and replies
 pub record Result (A : Type 0) : Type 0 where
   pub slave : Slave
