@@ -65,8 +65,11 @@ static void print_reply(vikombare_reply reply)
     case VIKOMBARE_MARK_UNTIMED:
         printf(", mark untimed");
         break;
-    case VIKOMBARE_MARK_LATE:
-        printf(", mark late");
+    case VIKOMBARE_MARK_DVB_LATE:
+        printf(", mark late by %lu steps", (unsigned long)reply.mark.dvb_late.steps);
+        break;
+    case VIKOMBARE_MARK_A110_LATE:
+        printf(", mark late by %lu periods", (unsigned long)reply.mark.a110_late.periods);
         break;
     case VIKOMBARE_MARK_DVB_RELEASED:
         printf(", mark: emission %lu, modulation %lu, wait %lld steps", (unsigned long)reply.mark.dvb.emission.steps,
@@ -126,6 +129,13 @@ static void dvb_board(void)
     feed_dvb(&slave, null, 10000000);
     print_reply(vikombare_packet(&slave, null, PACKET, vikombare_a110_tick(periods(600000))));
     feed_dvb(&slave, null, 600000);
+
+    /* its modulation time is 899,850, and it comes after that */
+    notice_packet(packet, 2012, 200000, 700000, offset, 0);
+    feed_dvb(&slave, packet, 650000);
+    number = vikombare_gap(&slave, 2012);
+    print_slave("gap of 2012", number, &slave);
+    feed_dvb(&slave, null, 899860);
 }
 
 static void a110_board(void)

@@ -46,9 +46,10 @@ extern "C" {
 #endif
 
 /* The version of this interface. MAJOR rises where a program has to be changed or compiled anew, MINOR where it has not: something is added, or a call
- * gives another value. 2.1: a time that was a whole second is 0. */
-#define VIKOMBARE_VERSION_MAJOR 2
-#define VIKOMBARE_VERSION_MINOR 1
+ * gives another value. 2.1: a time that was a whole second is 0. 3.0: a late mark says how late it is, and its kind in which unit; the kinds of a
+ * released mark are 4 and 5. */
+#define VIKOMBARE_VERSION_MAJOR 3
+#define VIKOMBARE_VERSION_MINOR 0
 
 /* An answer that must not be thrown away: it says what to do. The compiler warns where one is. */
 #if (defined(__cplusplus) && __cplusplus >= 201703L) || (defined(__STDC_VERSION__) && __STDC_VERSION__ >= 202311L)
@@ -77,7 +78,7 @@ enum {
     VIKOMBARE_REFUSED_POINTER = 12,           /* the pointer is not below n; the index is not 0 to 19 or 255 */
     VIKOMBARE_REFUSED_DELAY = 13,             /* MD + OD is not in 0 to a second - 1; in profile 1 also MD + OD + TAD not in 1 to a second - 1. OD is the one
                                                  in force once the notice is taken */
-    VIKOMBARE_REFUSED_LATE = 14,              /* a mark's own number, beside the notice's: see VIKOMBARE_MARK_LATE */
+    VIKOMBARE_REFUSED_LATE = 14,              /* a mark's own number, beside the notice's: see VIKOMBARE_MARK_DVB_LATE */
     VIKOMBARE_REFUSED_COLD = 15,              /* the settings are outside the limits; or the slave handed in is cold, or none that an accepted call gives */
     VIKOMBARE_REFUSED_BLOCK = 16,             /* the saved block's shape, check value, phase or ranges; a pending notice in it that 13 refuses */
     VIKOMBARE_REFUSED_BOARD = 17,             /* a sound block, but of another site, profile, n or TAD */
@@ -188,14 +189,20 @@ typedef struct {
 enum {
     VIKOMBARE_MARK_NONE = 0,          /* the packet is no mark, or the slave has no label */
     VIKOMBARE_MARK_UNTIMED = 1,       /* a mark without a notice, or one that a slip or the first notice led to: its time is not known */
-    VIKOMBARE_MARK_LATE = 2,          /* a mark that arrived after its modulation time (14): it has passed, its notice is cleared */
-    VIKOMBARE_MARK_DVB_RELEASED = 3,  /* mark.dvb has its times */
-    VIKOMBARE_MARK_A110_RELEASED = 4  /* mark.a110 has its times */
+    VIKOMBARE_MARK_DVB_LATE = 2,      /* a mark that arrived after its modulation time (14): it has passed, its notice is cleared. mark.dvb_late is by how
+                                         much: with a maximum delay (MD) longer by so much it would have had a wait of 0 */
+    VIKOMBARE_MARK_A110_LATE = 3,     /* the same in profile 1: mark.a110_late */
+    VIKOMBARE_MARK_DVB_RELEASED = 4,  /* mark.dvb has its times */
+    VIKOMBARE_MARK_A110_RELEASED = 5  /* mark.a110 has its times */
 };
 
 typedef struct {
     uint8_t kind;   /* VIKOMBARE_MARK_NONE, ... */
     uint8_t number; /* VIKOMBARE_REFUSED_LATE where it is late, else 0 */
+    union {
+        vikombare_steps dvb_late;    /* where kind is VIKOMBARE_MARK_DVB_LATE: 1 to twice a second - 2 */
+        vikombare_periods a110_late; /* where kind is VIKOMBARE_MARK_A110_LATE: 1 to twice a second - 2 */
+    };                               /* 0 for every other kind */
     union {
         vikombare_dvb_times dvb;   /* where kind is VIKOMBARE_MARK_DVB_RELEASED */
         vikombare_a110_times a110; /* where kind is VIKOMBARE_MARK_A110_RELEASED */
@@ -268,7 +275,8 @@ VIKOMBARE_HOLDS(sizeof(vikombare_slave) == 40 && offsetof(vikombare_slave, setti
 VIKOMBARE_HOLDS(offsetof(vikombare_slave, count) == 20 && offsetof(vikombare_slave, waiting) == 28);
 VIKOMBARE_HOLDS(sizeof(vikombare_dvb_times) == 24 && offsetof(vikombare_dvb_times, wait) == 16);
 VIKOMBARE_HOLDS(sizeof(vikombare_a110_times) == 24 && offsetof(vikombare_a110_times, wait) == 16);
-VIKOMBARE_HOLDS(sizeof(vikombare_mark) == 32 && offsetof(vikombare_mark, dvb) == 8 && offsetof(vikombare_mark, a110) == 8);
+VIKOMBARE_HOLDS(sizeof(vikombare_mark) == 32 && offsetof(vikombare_mark, dvb_late) == 4 && offsetof(vikombare_mark, a110_late) == 4);
+VIKOMBARE_HOLDS(offsetof(vikombare_mark, dvb) == 8 && offsetof(vikombare_mark, a110) == 8);
 VIKOMBARE_HOLDS(sizeof(vikombare_reply) == 48 && offsetof(vikombare_reply, place) == 8 && offsetof(vikombare_reply, mark) == 16);
 VIKOMBARE_HOLDS(sizeof(vikombare_numbers_notice) == 16 && offsetof(vikombare_numbers_notice, od) == 12);
 VIKOMBARE_HOLDS(sizeof(vikombare_notice) == 20 && offsetof(vikombare_notice, sts) == 8 && offsetof(vikombare_notice, tps) == 16);

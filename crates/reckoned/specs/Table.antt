@@ -1,4 +1,4 @@
--- The reckoned examples of document 01, each with what the definitions compute for it and what the papers state: P4 as document 02 has it.
+-- The reckoned examples of document 01, each with what the definitions compute for it and what the papers state: P3 and P4 as document 02 has them.
 use Rattle.std.specs.Prelude.{ℕ, ◌≡◌, List, [], ◌∷◌, map, ℤ, pos, negsuc}
 use Rattle.wire.specs.Standards.{dvb_second, a110_second}
 use Rattle.check_value.specs.Register.{register}
@@ -11,7 +11,7 @@ use Rattle.cadence.specs.declared.CodeRate.TheVariants.{SevenEighths}
 use Rattle.addressing.specs.Functions.{no_settings}
 use Rattle.state.specs.Slave.{unknown}
 use Rattle.state.specs.declared.Slave.{Slave}
-use Rattle.slave.specs.Answer.{due, mark_number}
+use Rattle.slave.specs.Answer.{Mark, due, mark_number, mark_lateness}
 use Rattle.slave.specs.Step.{locked_at}
 use Rattle.slave.specs.Gap.{gapped}
 
@@ -24,9 +24,9 @@ pub record Example : Type 0 where
 abbrev pub example : ℕ → List ℤ → List ℤ → Example
 example k c s = record { number = k; computed = c; stated = s }
 
--- the number of P3's mark, of STS 9,500,000 and MD 700,000, that comes at this tick: 14 where it is late
-abbrev pub number_at : ℕ → ℕ
-number_at arrival = mark_number (due 0 (due_of dvb_second 9_500_000 700_000 (pos 0) 0 arrival))
+-- P3's mark, of STS 9,500,000 and MD 700,000, that comes at this tick
+abbrev pub mark_at : ℕ → Mark
+mark_at arrival = due 0 (due_of dvb_second 9_500_000 700_000 (pos 0) 0 arrival)
 
 -- P8's slave: profile 0, n 2016, next label 2010, with a pending notice
 abbrev pub near_mark : Slave
@@ -48,10 +48,10 @@ table =
     ∷ example 2
     (wait_of dvb_second 9_500_000 700_000 (pos 0) 0 200_000 ∷ [])
     (pos 0 ∷ [])
-    -- arrival 200,001: late, 14, where 200,000 was not
+    -- arrival 200,001: late, 14, by 1 (Paper 3), where 200,000 was not
     ∷ example 3
-    (pos (number_at 200_001) ∷ pos (number_at 200_000) ∷ [])
-    (pos 14 ∷ pos 0 ∷ [])
+    (pos (mark_number (mark_at 200_001)) ∷ pos (mark_lateness (mark_at 200_001)) ∷ pos (mark_number (mark_at 200_000)) ∷ [])
+    (pos 14 ∷ pos 1 ∷ pos 0 ∷ [])
     -- STS 9,300,000, MD 700,000, OD 0: reference and emission (Paper 2)
     ∷ example 4
     (pos (reference dvb_second 9_300_000 700_000) ∷ pos (emission dvb_second 9_300_000 700_000 (pos 0)) ∷ [])

@@ -4,7 +4,7 @@ use Rattle.std.proofs.Math.Option.{Option, none, some}
 use Rattle.wire.specs.Reply.{Reply, refused, given}
 use Rattle.times.specs.Release.{Times, late, released}
 use Rattle.state.specs.declared.Slave.{Slave}
-use Rattle.slave.specs.Answer.{Notice, absent, taken, slip, ignored, Mark, unmarked, untimed, due, mark_number, Report, Result}
+use Rattle.slave.specs.Answer.{Notice, absent, taken, slip, ignored, Mark, unmarked, untimed, due, mark_number, mark_lateness, Report, Result}
 use Rattle.replies.specs.declared.MarkTimes.{MarkTimes}
 use Rattle.replies.specs.declared.Mark as CMark
 use Rattle.replies.specs.declared.PacketReply.{PacketReply}
@@ -30,12 +30,12 @@ notice_number taken = 0
 notice_number slip = 0
 notice_number (ignored k) = k
 
--- a released mark's kind says its profile, and so the unit of its times
+-- the kind of a mark that is due says its profile, and so the unit of its lateness or its times
 abbrev pub mark_kind : Mark → ℕ
 mark_kind unmarked = 0
 mark_kind untimed = 1
-mark_kind (due profile late) = 2
-mark_kind (due profile (released t)) = profile + 3
+mark_kind (due profile (late x)) = profile + 2
+mark_kind (due profile (released t)) = profile + 4
 
 abbrev pub no_times : MarkTimes
 no_times = record { reference = 0; emission = 0; modulation = 0; wait = pos 0 }
@@ -46,11 +46,11 @@ flat_times t = record { reference = t.reference; emission = t.emission; modulati
 abbrev pub mark_times : Mark → MarkTimes
 mark_times unmarked = no_times
 mark_times untimed = no_times
-mark_times (due profile late) = no_times
+mark_times (due profile (late x)) = no_times
 mark_times (due profile (released t)) = flat_times t
 
 abbrev pub flat_mark : Mark → CMark.Mark
-flat_mark m = record { kind = mark_kind m; number = mark_number m; times = mark_times m }
+flat_mark m = record { kind = mark_kind m; number = mark_number m; lateness = mark_lateness m; times = mark_times m }
 
 abbrev pub flat_report : Report → PacketReply
 flat_report r =

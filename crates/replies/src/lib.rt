@@ -4,13 +4,13 @@
 
 ghost use Rattle.std.specs.Prelude.{◌≡◌};
 ghost use Rattle.wire.specs.Reply.{refused, number_of, reply_of};
-ghost use Rattle.times.specs.Answer.{times_in};
-ghost use Rattle.slave.specs.Answer.{due, due_in, notice_of, mark_of, report_of};
+ghost use Rattle.times.specs.Answer.{times_in, due_in};
+ghost use Rattle.slave.specs.Answer.{due, notice_of, mark_of, report_of};
 ghost use Rattle.replies.specs.Flat.{notice_kind, notice_number, flat_times, flat_mark, flat_report, flat_reply};
 
 use slave::{Answer, Counted, MarkPart, NoticePart};
 use state::Slave;
-use times::{Times, Unit};
+use times::{Due, Times, Unit};
 use wire::Refusal;
 
 // What a mark is released with, in the unit of its profile.
@@ -23,13 +23,14 @@ pub struct MarkTimes {
     pub wait: i64,
 }
 
-// A mark: 0 none, 1 untimed, 2 late, 3 released in profile 0 with its times in steps of 100 ns, 4 released in profile 1 with its times in bit periods.
-// The number is that of a late mark, else 0. In C the times are a union with a member for each unit.
+// A mark: 0 none, 1 untimed; late in profile 0 (2) or 1 (3), with its number and how late it is; released in profile 0 (4) or 1 (5), with its times. What
+// it has not is 0. In C the lateness and the times are unions with a member for each unit: steps of 100 ns in profile 0, bit periods in profile 1.
 #[repr(C)]
 #[derive(Clone, Copy, Default)]
 pub struct Mark {
     pub kind: u8,
     pub number: u8,
+    pub lateness: u32,
     pub times: MarkTimes,
 }
 
@@ -70,18 +71,19 @@ impl<T: Unit> From<Times<T>> for MarkTimes {
 }
 
 // A mark that is due, in either unit.
-impl<T: Unit> From<Option<Times<T>>> for Mark {
-    ghost from_gives = { λ t r. r ≡ flat_mark (due T.PROFILE (due_in T.count t)) };
+impl<T: Unit> From<Due<T>> for Mark {
+    ghost from_gives = { λ d r. r ≡ flat_mark (due T.PROFILE (due_in T.count d)) };
 
-    fn from(t: Option<Times<T>>) -> Mark {
-        match t {
-            None => Mark {
-                kind: 2,
+    fn from(d: Due<T>) -> Mark {
+        match d {
+            Due::Late(x) => Mark {
+                kind: T::PROFILE + 2,
                 number: Refusal::Late.number(),
+                lateness: x.count(),
                 ..Mark::default()
             },
-            Some(t) => Mark {
-                kind: T::PROFILE + 3,
+            Due::Released(t) => Mark {
+                kind: T::PROFILE + 4,
                 times: t.into(),
                 ..Mark::default()
             },
@@ -99,8 +101,8 @@ impl From<MarkPart> for Mark {
                 kind: 1,
                 ..Mark::default()
             },
-            MarkPart::Dvb(t) => t.into(),
-            MarkPart::A110(t) => t.into(),
+            MarkPart::Dvb(d) => d.into(),
+            MarkPart::A110(d) => d.into(),
         }
     }
 }

@@ -11,7 +11,7 @@ use lib.ListN.{replicate, take}
 use Rattle.wire.specs.Reply.{Reply, refused, given}
 use Rattle.check_value.specs.Register.{bit_in, bits_in, register_from, register}
 use Rattle.times.specs.Whole.{within}
-use Rattle.times.specs.Release.{wrap, modulation, link_delay, delay_fits, delay_fits_a110, released, due_of}
+use Rattle.times.specs.Release.{wrap, modulation, link_delay, delay_fits, delay_fits_a110, late, released, due_of}
 use Rattle.cadence.specs.Cadence.{at_some_rate, is_mega_frame, admits}
 use Rattle.addressing.specs.Functions.{length_fits, set_by, functions_in, functions_of}
 use Rattle.addressing.specs.Entries.{addressed, entries_in, settings_of}
@@ -21,7 +21,7 @@ use Rattle.state.specs.Sound.{is_zero, frequency_fits, index_fits, is_nothing, w
 use Rattle.state.specs.declared.Board.{Board}
 use Rattle.state.specs.declared.Slave.{Slave}
 use Rattle.judging.specs.Judge.{arrival_refusal, carries, taken_refusal, limited, judge_mip, judge_arrived, judge_given}
-use Rattle.slave.specs.Answer.{Notice, absent, taken, slip, ignored, Mark, unmarked, untimed, due, Report, label_in, notice_in}
+use Rattle.slave.specs.Answer.{Notice, absent, taken, slip, ignored, Mark, unmarked, untimed, due, Report, label_in, notice_in, mark_in}
 use Rattle.slave.specs.Step.{release_at, mark_at, passed, unheard, counted, mark_taken, notice_taken, took, step_of}
 use Rattle.slave.specs.Gap.{gapped}
 use Rattle.slave.specs.Calls.{start_of, packet_of, numbers_of, gap_of}
@@ -29,7 +29,9 @@ use Rattle.run.specs.Adapter.{Adapter}
 use Rattle.run.specs.Book.{by_value, in_place, Arrival, packet, numbers, Call, at, gap, judged, Book, closed, verdict_at, untold, count_place, tell_gap, enter, enter_call, book_after}
 use Rattle.run.specs.Run.{hear, leave, slave_after, begun, places, Run}
 use Rattle.run.specs.Claim.{told_exactly, Timed}
+use Rattle.run.specs.Late.{Lengthened, mark_behind, Held}
 use Rattle.run.proofs.Sentences.{sentences}
+use Rattle.run.proofs.Late.{mended}
 
 -- profile 1; in each cadence a notice at label 620. The first mark is after the pulse, by 42 units
 abbrev sts : ℕ → ℕ
@@ -249,3 +251,62 @@ read = (
 
     slip_run : Run g A slip_calls
     slip_run = computed.1.run
+
+-- ---- late marks, and the same notices with MD longer by as much
+
+-- P3: a MIP before the mark, of STS 9,500,000 and an MD of 700,000 or 700,001; the mark comes at 200,001
+abbrev p3 : (md c₀ c₁ c₂ c₃ : ℕ) → Arrival
+p3 md c₀ c₁ c₂ c₃ =
+    packet in_place
+    (0x47 ∷ 0x60 ∷ 0x15 ∷ 0x10 ∷ 0x00 ∷ 0x13 ∷ 0x00 ∷ 0x00 ∷ 0x80 ∷ 0x00 ∷ 0x90 ∷ 0xF5 ∷ 0x60 ∷ 0x0A ∷ 0xAE ∷ md ∷ 0x00 ∷ 0x00 ∷ 0x00 ∷ 0x00 ∷ 0x00
+    ∷ c₀ ∷ c₁ ∷ c₂ ∷ c₃ ∷ replicate 163 0xFF)
+    9_000_000
+
+abbrev z : Board
+z = record { profile = 0; n = 2016; site = 7; tad = 0 }
+
+-- profile 1: three packets before the mark, which comes 90 units after its STS; MD is 100 or 110, TAD 20. One of the packets never comes
+abbrev needs : ℕ → Arrival
+needs md = numbers clean 1 (record { pointer = 3; sts = record { 0 = sts 0 }; md = record { 0 = md }; od = pos 0; index = 255 })
+
+abbrev between : List Call
+between = plain 621 2 ∷ gap 1 ∷ plain 623 4 ∷ []
+
+pub record Mends (s : Slave) (profile x : ℕ) (a a' : Arrival) (behind : List Call) (b : Arrival) : Type 0 where
+  pub lengthened : Lengthened s x a a' behind
+  pub was_late : mark_behind s a behind b ≡ due profile (late x)
+
+pub mended_examples :
+    Mends (begun z) 0 1 (p3 0x60 0xDA 0x57 0x73 0x39) (p3 0x61 0xC1 0x7F 0x7E 0x41) [] (quiet 200_001)
+    × Mends (begun g) 1 10 (needs 100) (needs 110) between (quiet 32)
+unfolding judged hear leave slave_after start_of packet_of numbers_of gap_of sound settings_kept admits is_mega_frame at_some_rate second parts_fit hunting_fits is_unset is_uncounted is_zero locked_fits frequency_fits index_fits waiting_fits is_nothing delay_kept delay_fits delay_fits_a110 within arrival_refusal carries taken_refusal limited judge_mip judge_arrived judge_given step_of counted passed unheard took mark_at mark_taken notice_taken release_at due_of wrap modulation link_delay gapped section_refusal settings_of entries_in functions_of functions_in length_fits set_by addressed register register_from bits_in bit_in
+mended_examples = (
+  record {
+    lengthened = record {
+      is_sound = refl;
+      notice = record { pointer = 0; index = 255; settings = record { od = pos 0; frequency = pos 0; power = 0 }; sts = 9_500_000; md = 700_000 };
+      taken = refl;
+      longer_taken = refl;
+      none_behind = tt;
+    };
+    was_late = refl;
+  },
+  record {
+    lengthened = record {
+      is_sound = refl;
+      notice = record { pointer = 3; index = 255; settings = record { od = pos 0; frequency = pos 0; power = 0 }; sts = sts 0; md = 100 };
+      taken = refl;
+      longer_taken = refl;
+      none_behind = (refl, (tt, (refl, tt)));
+    };
+    was_late = refl;
+  },
+)
+
+-- so both are released with a wait of 0
+pub mended_waits :
+    Held 0 0 (mark_behind (begun z) (p3 0x61 0xC1 0x7F 0x7E 0x41) [] (quiet 200_001))
+    × Held 1 0 (mark_behind (begun g) (needs 110) between (quiet 32))
+mended_waits =
+    let m = mended_examples in
+    ((mended 1 _ _ _ _ m.0.lengthened _ _ _ m.0.was_late).by_it refl, (mended 10 _ _ _ _ m.1.lengthened _ _ _ m.1.was_late).by_it refl)

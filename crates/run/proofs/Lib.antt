@@ -4,4 +4,5 @@ pub mod Follow
 pub mod Steps
 pub mod Run
 pub mod Sentences
+pub mod Late
 pub mod Examples

@@ -4,3 +4,4 @@ pub mod Book
 pub mod Run
 pub mod Claim
 pub mod Sentences
+pub mod Late

@@ -3,3 +3,4 @@ pub mod Stepping
 pub mod Calling
 pub mod Sound
 pub mod Due
+pub mod Longer

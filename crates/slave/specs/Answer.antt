@@ -5,8 +5,7 @@ use Rattle.std.proofs.Math.Option.{Option, none, some}
 use Rattle.wire.specs.declared.Refusal.{Refusal}
 use Rattle.wire.specs.Reply.{Reply, refused, given, refusal_number, reply_of}
 use Rattle.times.specs.Release.{Due, late, released}
-use Rattle.times.specs.Answer.{steps, periods, times_in}
-use Rattle.times.specs.declared.Times as Times'
+use Rattle.times.specs.Answer.{steps, periods, due_in}
 use Rattle.state.specs.declared.Slave.{Slave}
 use Rattle.slave.specs.declared.NoticePart as NoticePart'
 use Rattle.slave.specs.declared.NoticePart.TheVariants as notice
@@ -22,7 +21,7 @@ pub data Notice : Type 0 where
   slip : Notice
   ignored : ℕ → Notice
 
--- the mark's part: none, untimed, or due in the unit of a profile: late, or released with its times
+-- the mark's part: none, untimed, or due in the unit of a profile: late by so much, or released with its times
 pub data Mark : Type 0 where
   unmarked : Mark
   untimed : Mark
@@ -32,8 +31,15 @@ pub data Mark : Type 0 where
 abbrev pub mark_number : Mark → ℕ
 mark_number unmarked = 0
 mark_number untimed = 0
-mark_number (due profile late) = 14
+mark_number (due profile (late x)) = 14
 mark_number (due profile (released t)) = 0
+
+-- and by how much (document 02, Paper 3)
+abbrev pub mark_lateness : Mark → ℕ
+mark_lateness unmarked = 0
+mark_lateness untimed = 0
+mark_lateness (due profile (late x)) = x
+mark_lateness (due profile (released t)) = 0
 
 -- the report on a counted packet; `turn` says that a numbers notice gave another index than the known one
 pub record Report : Type 0 where
@@ -75,11 +81,6 @@ notice_of notice.Absent = absent
 notice_of notice.Taken = taken
 notice_of notice.Slip = slip
 notice_of (notice.Ignored r) = ignored (refusal_number r)
-
--- times in a unit that is counted so, or none
-abbrev pub due_in : {T : Type 0} → (T → ℕ) → std.Option (Times'.Times T) → Due
-due_in count None = late
-due_in count (Some t) = released (times_in count t)
 
 abbrev pub mark_of : MarkPart'.MarkPart → Mark
 mark_of mark.Unmarked = unmarked

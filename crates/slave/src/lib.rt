@@ -15,7 +15,7 @@ use addressing::Settings;
 use judging::Numbers;
 use ready::Ready;
 use state::{Board, Count, Slave, Waiting};
-use times::{Periods, Steps, Times, Unit};
+use times::{Due, Periods, Steps, Unit};
 use wire::Refusal;
 
 // The notice's part of a reply.
@@ -27,13 +27,13 @@ pub enum NoticePart {
     Ignored(Refusal),
 }
 
-// The mark's part of a reply. A mark that is due has its times in its profile's unit, or none where it is late.
+// The mark's part of a reply. Of a mark that is due the times, or the lateness, are in its profile's unit.
 #[derive(Clone, Copy)]
 pub enum MarkPart {
     Unmarked,
     Untimed,
-    Dvb(Option<Times<Steps>>),
-    A110(Option<Times<Periods>>),
+    Dvb(Due<Steps>),
+    A110(Due<Periods>),
 }
 
 // The report on a counted packet.

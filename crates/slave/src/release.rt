@@ -1,15 +1,15 @@
-// The times of a mark whose notice waits (document 01, "Release"; document 02, Paper 2). The limits are known to hold: the slave is sound, and the arrival
+// The times of a mark whose notice waits (document 01, "Release"; document 02, Papers 2 and 3). The limits are known to hold: the slave is sound, and the arrival
 // tick is one of its second.
 ghost use Rattle.std.specs.Prelude.{◌≡◌, true, ◌+◌, ◌<◌, ◌^◌};
-ghost use Rattle.times.specs.Answer.{number, times_in};
+ghost use Rattle.times.specs.Answer.{number, times_in, due_in};
 ghost use Rattle.times.specs.Release.{wrap, reference, emission, modulation, link_delay, wait, delay_fits, times_of, due_of};
 ghost use Rattle.state.specs.Profile.{second};
-ghost use Rattle.slave.specs.Answer.{due_in, mark_of};
+ghost use Rattle.slave.specs.Answer.{mark_of};
 ghost use Rattle.slave.specs.Step.{release_at};
 
 use crate::MarkPart;
 use crate::ready::Locked;
-use times::{Periods, Steps, Times, Unit};
+use times::{Due, Periods, Steps, Times, Unit};
 
 // A mark of STS, MD and OD that came at a tick to a site with TAD, in a second of u units.
 #[derive(Clone, Copy)]
@@ -77,7 +77,7 @@ impl Arrival {
         self.tick - self.sts
     }
 
-    // How long the mark is still to be held.
+    // How long the mark is still to be held: negative where it is late.
     #[tactic(auto, unfolding(times::specs::Release::delay_fits, times::specs::Whole::within))]
     fn wait(self) -> i64
         ensures { result ≡ wait self.md self.od self.tad (link_delay self.u self.tick self.sts) }
@@ -97,16 +97,16 @@ impl Arrival {
         }
     }
 
-    // The times in the unit T, or none of a late mark.
-    #[tactic(auto, unfolding(times::specs::Release::due_of))]
-    fn due<T: Unit>(self) -> Option<Times<T>>
+    // The times in the unit T, or the lateness: minus the wait, which is proved to fit.
+    #[tactic(auto, using(times::proofs::Formulas::link_less), unfolding(times::specs::Release::due_of, times::specs::Release::delay_fits, times::specs::Whole::within))]
+    fn due<T: Unit>(self) -> Due<T>
         ensures { due_in T.count result ≡ due_of self.u self.sts self.md self.od self.tad self.tick }
     {
         let times = self.times();
         if times.wait < 0 {
-            return None;
+            return Due::Late(T::of(-times.wait as u32));
         }
-        Some(times.into())
+        Due::Released(times.into())
     }
 }
 

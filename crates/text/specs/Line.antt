@@ -7,7 +7,7 @@ use Rattle.slave.specs.Answer.{Notice, absent, taken, slip, ignored, Mark, unmar
 use Rattle.text.specs.Decimal.{decimal}
 use Rattle.text.specs.Words.{space, newline, dash, site_word, cadence_word, refused_word, end_word, taken_word, slip_word, untimed_word, late_word}
 
--- a record's columns: its label, its notice, and its mark with the emission time
+-- a record's columns: its label, its notice, and its mark with the emission time, or with how late it is (document 02, Paper 3)
 abbrev pub label_text : Option ℕ → List ℕ
 label_text none = dash
 label_text (some x) = decimal x
@@ -21,7 +21,7 @@ notice_text (ignored k) = decimal k
 abbrev pub mark_text : Mark → List ℕ
 mark_text unmarked = dash
 mark_text untimed = untimed_word
-mark_text (due profile late) = late_word
+mark_text (due profile (late x)) = late_word ++ (space ∷ []) ++ decimal x
 mark_text (due profile (released t)) = decimal t.emission
 
 abbrev pub report_text : Report → List ℕ

@@ -1,15 +1,15 @@
 -- The most bytes that each part of the log takes, computed from what is printed (`Line`): a buffer with so much room holds it.
 use Rattle.std.specs.Prelude.{ℕ, ◌+◌, List, length}
 use Rattle.text.specs.Decimal.{most_digits}
-use Rattle.text.specs.Words.{site_word, cadence_word, refused_word, end_word}
+use Rattle.text.specs.Words.{site_word, cadence_word, refused_word, end_word, late_word}
 
 -- a column: no word is longer than the longest number
 abbrev pub column_room : ℕ
 column_room = most_digits
 
--- the mark's column
+-- the mark's column: a late mark has its word and a number
 abbrev pub mark_room : ℕ
-mark_room = column_room
+mark_room = length late_word + 1 + most_digits
 
 -- the three columns, a byte behind each
 abbrev pub report_room : ℕ

@@ -3,14 +3,15 @@
 #![tactic(auto)]
 
 ghost use Rattle.std.specs.Prelude.{◌≡◌, [], ◌∷◌, ◌+◌, ◌-◌, ◌≤◌, length};
-ghost use Rattle.slave.specs.Answer.{due, due_in, option_of, notice_of, mark_of, report_of, answer_of};
+ghost use Rattle.times.specs.Answer.{due_in};
+ghost use Rattle.slave.specs.Answer.{due, option_of, notice_of, mark_of, report_of, answer_of};
 ghost use Rattle.text.specs.Decimal.{decimal, most_digits};
 ghost use Rattle.text.specs.Line.{label_text, notice_text, mark_text, report_text, numbered, refusal_text, line_of, site_line, end_line};
 ghost use Rattle.text.specs.Rooms.{column_room, mark_room, report_room, numbered_room, refusal_room, line_room, site_room, end_room};
 ghost use Rattle.text.specs.Puts.{Puts, Placed};
 
 use slave::{Counted, MarkPart, NoticePart};
-use times::{Times, Unit};
+use times::{Due, Unit};
 use wire::Refusal;
 
 // The fixed words before numbers: specs/Words.antt.
@@ -22,12 +23,14 @@ const REFUSED_WORD: &[u8] = b"refused ";
 
 const END_WORD: &[u8] = b"end ";
 
+const LATE_WORD: &[u8] = b"late";
+
 // The most bytes that each part takes: specs/Rooms.antt.
 const MOST_DIGITS: usize = 20;
 
 const COLUMN_ROOM: usize = MOST_DIGITS;
 
-const MARK_ROOM: usize = COLUMN_ROOM;
+const MARK_ROOM: usize = LATE_WORD.len() + 1 + MOST_DIGITS;
 
 const REPORT_ROOM: usize = COLUMN_ROOM + 1 + COLUMN_ROOM + 1 + MARK_ROOM + 1;
 
@@ -115,20 +118,24 @@ impl Page<'_> {
         match mark {
             MarkPart::Unmarked => self.byte(b'-'),
             MarkPart::Untimed => self.word(b"untimed"),
-            MarkPart::Dvb(t) => self.due(t),
-            MarkPart::A110(t) => self.due(t),
+            MarkPart::Dvb(d) => self.due(d),
+            MarkPart::A110(d) => self.due(d),
         }
     }
 
-    // A mark that is due, in either unit: late, or its emission time.
-    fn due<T: Unit>(&mut self, t: Option<Times<T>>)
+    // A mark that is due, in either unit: how late it is, or its emission time.
+    fn due<T: Unit>(&mut self, d: Due<T>)
         requires { self.old.at + mark_room ≤ length self.old.out.now }
         ensures same { self.new.out.ghost_name ≡ self.old.out.ghost_name }
-        ensures puts { Puts mark_room self.old.out.now self.old.at (mark_text (due T.PROFILE (due_in T.count t))) self.new.out.now self.new.at }
+        ensures puts { Puts mark_room self.old.out.now self.old.at (mark_text (due T.PROFILE (due_in T.count d))) self.new.out.now self.new.at }
     {
-        match t {
-            None => self.word(b"late"),
-            Some(t) => self.decimal(t.emission.count().into()),
+        match d {
+            Due::Late(x) => {
+                self.word(LATE_WORD);
+                self.byte(b' ');
+                self.decimal(x.count().into());
+            }
+            Due::Released(t) => self.decimal(t.emission.count().into()),
         }
     }
 

@@ -5,7 +5,7 @@ use lib.Signed.{lt_z, ◌<ℤ◌, ◌≤ℤ◌}
 use Rattle.std.proofs.lemmas.Int.{ints}
 use Rattle.std.proofs.lemmas.Bool.Decides.{nat_tests}
 use Rattle.times.specs.Whole.{plus, within}
-use Rattle.times.specs.Release.{wrap, modulation, link_delay, wait, negative, delay_fits, delay_fits_a110}
+use Rattle.times.specs.Release.{wrap, modulation, link_delay, wait, negative, lateness, delay_fits, delay_fits_a110}
 use Rattle.times.proofs.Whole.{plus_is, congruent, residue_less, residue_is}
 
 -- ---- a sum of u or more loses u
@@ -84,3 +84,15 @@ module _ (u md : ℕ) (od : ℤ) (fits : delay_fits u md od ≡ true) where
 -- ---- late exactly when MD + OD is less than TAD and the link delay together
 pub late_is : (md : ℕ) (od : ℤ) (tad link : ℕ) → negative (wait md od tad link) ≡ lt_z (pos md +ℤ od) (pos (tad + link))
 late_is md od tad link = grind (arith, ints, nat_tests)
+
+-- ---- minus a negative wait, 1 or more
+module _ (w : ℤ) (e : negative w ≡ true) where
+  pub lateness_minus : w ≡ pos 0 -ℤ pos (lateness w)
+  lateness_minus = grind (arith, ints, nat_tests)
+
+  pub lateness_least : 1 ≤ lateness w
+  lateness_least = grind (arith, ints, nat_tests)
+
+-- ---- the wait grows as MD does
+pub wait_longer : (md y : ℕ) (od : ℤ) (tad link : ℕ) → wait (md + y) od tad link ≡ wait md od tad link +ℤ pos y
+wait_longer md y od tad link = omega (arith, ints)

@@ -1,15 +1,16 @@
 -- What holds of the times of a release, for a second of u units.
--- Their ranges, what they are modulo u, where the wait ends, when a mark is late, and one reference time for all sites.
-use Rattle.std.proofs.Common.{◌≡◌, sym, ap, ◌∙◌, subst, true, false, ℕ, ◌+◌, ◌-◌, ◌/◌, ◌%◌, ◌≤◌, ◌<◌, arith, ℤ, pos, ◌+ℤ◌, ◌-ℤ◌}
+-- Their ranges, what they are modulo u, where the wait ends, when a mark is late and by how much, and one reference time for all sites.
+use Rattle.std.proofs.Common.{◌≡◌, sym, ap, ◌∙◌, subst, true, false, ℕ, ◌+◌, ◌-◌, ◌*◌, ◌/◌, ◌%◌, ◌≤◌, ◌<◌, arith, ℤ, pos, ◌+ℤ◌, ◌-ℤ◌}
 use lib.Dec.{ltb}
-use lib.Signed.{lt_z}
+use lib.Signed.{lt_z, ◌≤ℤ◌}
 use borrow.Author.Differences.{up, down}
 use Rattle.std.proofs.lemmas.Int.{ints}
+use Rattle.std.proofs.lemmas.Bool.Decides.{nat_tests}
 use Rattle.times.specs.Whole.{plus, residue}
-use Rattle.times.specs.Release.{wrap, reference, emission, modulation, link_delay, wait, negative, delay_fits, Times, released, wait_of, times_of, due_of, Kept}
+use Rattle.times.specs.Release.{wrap, reference, emission, modulation, link_delay, wait, negative, delay_fits, Times, late, released, wait_of, times_of, due_of, Kept}
 use Rattle.times.proofs.Whole.{Diff, congruent, differ, residue_only}
-use Rattle.times.proofs.Formulas.{wrap_less, wrap_residue, modulation_less, modulation_residue, link_residue, delay_less, delay_whole, sum_apart, sum_whole, late_is}
-use Rattle.times.proofs.Answers.{Passed, passed}
+use Rattle.times.proofs.Formulas.{wrap_less, wrap_residue, modulation_less, modulation_residue, link_less, link_residue, delay_less, delay_whole, sum_apart, sum_whole, late_is, lateness_minus, lateness_least, wait_longer}
+use Rattle.times.proofs.Answers.{due_late, due_released, Passed, passed, Missed, missed}
 
 -- ---- ranges
 pub record InRange (u : ℕ) (t : Times) : Type 0 where
@@ -98,6 +99,10 @@ module _ (u sts md : ℕ) (od : ℤ) (fits : delay_fits u md od ≡ true) where
         ends = sym (ap (λ (z : ℤ). residue u (pos arrival +ℤ z)) whole) ∙ wait_ends tad arrival h g;
       }
 
+  -- ---- the least wait: MD + OD is 0, TAD a second less one, and the arrival one before STS
+  pub wait_least : (tad arrival : ℕ) → tad < u → pos 0 ≤ℤ (wait_of u sts md od tad arrival +ℤ pos (2 * (u - 1)))
+  wait_least tad arrival h = omega (arith, ints, link_less u arrival sts (omega arith), delay_whole u md od fits)
+
   -- ---- late exactly when MD + OD is over before the link delay and TAD are
   pub late_after : (tad link : ℕ) → negative (wait md od tad link) ≡ ltb (plus md od) (tad + link)
   late_after tad link = late_is md od tad link ∙ ap (λ (z : ℤ). lt_z z (pos (tad + link))) (sym (delay_whole u md od fits))
@@ -120,6 +125,40 @@ module _ (u sts md : ℕ) (od : ℤ) (tad arrival : ℕ) (t : Times) (answer : d
 
     pub released_waits : Waits u md od arrival t
     released_waits = subst (Waits u md od arrival) has.times_are (waits u sts md od k.delay_in_second tad arrival k.sts_less k.tad_less has.in_time)
+
+-- ---- of a mark that is late by x
+module _ (u sts md : ℕ) (od : ℤ) (tad arrival x : ℕ) (answer : due_of u sts md od tad arrival ≡ late x) where
+  abbrev w : ℤ
+  w = wait_of u sts md od tad arrival
+
+  missing : Missed u sts md od tad arrival x
+  missing = missed u sts md od tad arrival x answer
+
+  -- x is minus the wait, and 1 or more
+  pub late_wait : wait_of u sts md od tad arrival ≡ pos 0 -ℤ pos x
+  late_wait = lateness_minus w missing.too_late ∙ ap (λ (n : ℕ). pos 0 -ℤ pos n) missing.by
+
+  pub late_least : 1 ≤ x
+  late_least = omega (arith, lateness_least w missing.too_late, missing.by)
+
+  pub late_most : Kept u sts md od tad arrival → x ≤ 2 * (u - 1)
+  late_most k = omega (arith, ints, wait_least u sts md od k.delay_in_second tad arrival k.tad_less, late_wait)
+
+  -- what a longer MD makes of it at the same arrival: shorter by so much, and from x on it is released
+  module _ (y : ℕ) where
+    longer_wait : wait_of u sts (md + y) od tad arrival ≡ pos y -ℤ pos x
+    longer_wait = omega (arith, ints, late_wait, wait_longer md y od tad (link_delay u arrival sts))
+
+    pub longer_late : y < x → due_of u sts (md + y) od tad arrival ≡ late (x - y)
+    longer_late h =
+        let e : negative (wait_of u sts (md + y) od tad arrival) ≡ true = rw longer_wait (grind (arith, ints, nat_tests)) in
+        due_late u sts (md + y) od tad arrival e ∙ ap late (omega (arith, ints, longer_wait, lateness_minus (wait_of u sts (md + y) od tad arrival) e))
+
+    pub longer_released : x ≤ y → due_of u sts (md + y) od tad arrival ≡ released (times_of u sts (md + y) od tad arrival)
+    longer_released h = due_released u sts (md + y) od tad arrival (rw longer_wait (grind (arith, ints, nat_tests)))
+
+    pub longer_waits : x ≤ y → wait_of u sts (md + y) od tad arrival ≡ pos (y - x)
+    longer_waits h = omega (arith, ints, longer_wait)
 
 -- two sites that release a mark of one STS and MD give it one reference time
 pub one_reference :

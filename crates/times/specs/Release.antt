@@ -1,5 +1,5 @@
 -- The times of a release for a second of u units, and the limits that they keep.
--- Document 01, "Two clocks" and "Release", refusals 3, 11, 13 and 14; document 02, Paper 2; A/110 6.4.2 and 6.4.5.
+-- Document 01, "Two clocks" and "Release", refusals 3, 11, 13 and 14; document 02, Papers 2 and 3; A/110 6.4.2 and 6.4.5.
 use Rattle.std.specs.Prelude.{◌≡◌, Bool, true, cond, ◌&&◌, ℕ, ◌+◌, ◌-◌, ◌<◌, ltb, ℤ, pos, ◌+ℤ◌, ◌-ℤ◌}
 use Rattle.std.specs.Int.Signed.{lt_z}
 use Rattle.times.specs.Whole.{plus, residue, within}
@@ -32,6 +32,10 @@ wait md od tad link = pos md +ℤ od -ℤ pos tad -ℤ pos link
 abbrev pub negative : ℤ → Bool
 negative w = lt_z w (pos 0)
 
+-- by so much: minus the wait (Paper 3)
+abbrev pub lateness : ℤ → ℕ
+lateness w = plus 0 (pos 0 -ℤ w)
+
 -- at most u − 1, as an arrival tick (3), STS and MD (11) and TAD (15) must be
 abbrev pub in_second : ℕ → ℕ → Bool
 in_second u t = ltb t u
@@ -51,9 +55,9 @@ pub record Times : Type 0 where
   pub modulation : ℕ
   pub wait : ℤ
 
--- a mark that is due is late, or released with its times
+-- a mark that is due is late by so much, or released with its times
 pub data Due : Type 0 where
-  late : Due
+  late : ℕ → Due
   released : Times → Due
 
 -- a mark of STS, MD and OD that came at the tick `arrival` to a site with TAD
@@ -72,7 +76,7 @@ module _ (u sts md : ℕ) (od : ℤ) (tad arrival : ℕ) where
 
   -- the sign of the wait decides
   unfoldable pub due_of : Due
-  due_of = cond (negative wait_of) late (released times_of)
+  due_of = cond (negative wait_of) (late (lateness wait_of)) (released times_of)
 
   -- the limits that a sound slave's notice keeps at a tick of its second
   pub record Kept : Type 0 where

@@ -1,5 +1,5 @@
 // The units of time, and what the limits say of them: document 01, "Two clocks", and refusals 3, 11, 13 and 15 where they speak of times.
-// What a mark is released with stands here too; a release is reckoned in crate `slave`, where the limits are known to hold.
+// What is said of a mark that is due stands here too; it is reckoned in crate `slave`, where the limits are known to hold.
 #![tactic(auto)]
 
 ghost use Rattle.std.specs.Prelude.{◌≡◌, ◌≤◌, Bool, ℕ, ℤ, pos, ◌+ℤ◌};
@@ -136,6 +136,13 @@ impl<T: Unit> From<Times<u32>> for Times<T> {
             wait: t.wait,
         }
     }
+}
+
+// A mark that is due: late by so much, or released with its times.
+#[derive(Clone, Copy)]
+pub enum Due<T> {
+    Late(T),
+    Released(Times<T>),
 }
 
 // Whether a tick, STS, MD or TAD is within its second (3, 11, 15).

@@ -1,0 +1,56 @@
+-- What a longer MD makes of a late mark (document 02, Paper 3).
+use Rattle.std.specs.Prelude.{ℕ, ◌+◌, ◌-◌, ◌<◌, ◌≡◌, Bool, true, false, List, [], ◌∷◌, pos}
+use Rattle.times.specs.Release.{Times, late, released}
+use Rattle.state.specs.Sound.{sound}
+use Rattle.state.specs.declared.Slave.{Slave}
+use Rattle.judging.specs.Judgement.{Judgement, Refuse, Counts, Takes}
+use Rattle.judging.specs.declared.Taken.{Taken}
+use Rattle.slave.specs.Answer.{Mark, due, mark_in}
+use Rattle.run.specs.Book.{Arrival, Call, at, gap, judged}
+use Rattle.run.specs.Run.{hear, leave, slave_after}
+
+-- a notice with MD longer by y
+abbrev pub longer : ℕ → Taken → Taken
+longer y x = record x { md = x.md + y }
+
+-- how a slave judges what comes
+abbrev pub judged_by : Slave → Arrival → Judgement
+judged_by s a = judged s.board s.settings a
+
+abbrev pub takes : Judgement → Bool
+takes (Refuse k) = false
+takes (Counts k) = false
+takes (Takes x) = true
+
+-- a call takes no notice, and none of a list does
+abbrev pub TakesNone : Slave → Call → Type 0
+TakesNone s (at t a) = takes (judged_by s a) ≡ false
+TakesNone s (gap k) = Unit {0}
+
+abbrev pub NoneTaken : Slave → List Call → Type 0
+NoneTaken s [] = Unit {0}
+NoneTaken s (c ∷ cs) = TakesNone s c × NoneTaken (leave s c) cs
+
+-- a sound slave takes the notice that a carries, or the same with MD longer by y, which a' carries: 11 and 13 allow both. The calls behind it take none
+pub record Lengthened (s : Slave) (y : ℕ) (a a' : Arrival) (behind : List Call) : Type 0 where
+  pub is_sound : sound s ≡ true
+  pub notice : Taken
+  pub taken : judged_by s a ≡ Takes notice
+  pub longer_taken : judged_by s a' ≡ Takes (longer y notice)
+  pub none_behind : NoneTaken (hear s a).slave behind
+
+-- the mark that comes with b behind the notice and these calls
+abbrev pub mark_behind : Slave → Arrival → List Call → Arrival → Mark
+mark_behind s a behind b = mark_in (hear (slave_after (hear s a).slave behind) b).reply
+
+-- released, to be held so long
+pub record Held (profile wait : ℕ) (m : Mark) : Type 0 where
+  pub times : Times
+  pub mark : m ≡ due profile (released times)
+  pub waits : times.wait ≡ pos wait
+
+-- what becomes of a mark that was late by x, if its notice has an MD longer by y: released at once if y is x, late by the rest if y is less
+pub record Mended (profile x y : ℕ) (m : Mark) : Type 0 where
+  pub by_it : y ≡ x → Held profile 0 m
+  pub by_less : y < x → m ≡ due profile (late (x - y))
+  pub by_more : x < y → Held profile (y - x) m

@@ -1,0 +1,60 @@
+-- Two slaves that are alike but for the notice that waits, whose MD is longer by y in the one: every step leaves them so, and where the one finds its
+-- mark late the other reckons with the longer MD.
+use mathlib.Core.Path.{◌≡◌, refl, ap, ◌∙◌}
+use mathlib.Core.Bool.{true, cond}
+use Prim.Native.Nat.{ℕ, ◌+◌}
+use native.Mathlib.Omega.{arith}
+use lib.Dec.{eqb, leb}
+use lib.IntN.{ℤ}
+use Rattle.std.proofs.lemmas.Bool.Decides.{nat_tests}
+use Rattle.wire.proofs.Tests.{yes}
+use Rattle.times.specs.Release.{Due, due_of}
+use Rattle.state.specs.Profile.{second}
+use Rattle.state.specs.Slave.{nothing}
+use Rattle.state.specs.declared.Waiting.{Waiting}
+use Rattle.state.specs.declared.Slave.{Slave}
+use Rattle.judging.specs.Judgement.{Judgement, Refuse, Counts, Takes}
+use Rattle.judging.specs.declared.Taken.{Taken}
+use Rattle.slave.specs.Answer.{due, mark_in, Report, Result}
+use Rattle.slave.specs.Step.{release_at, mark_at, mark_taken, passed, unheard, counted, agrees, took, step_of}
+use Rattle.slave.specs.Gap.{to_mark, gapped}
+use Rattle.slave.proofs.Due.{unmarked_apart, untimed_apart, OwnDue}
+
+abbrev pub longer_waiting : ℕ → Waiting → Waiting
+longer_waiting y w = record w { md = cond (eqb w.pending 1) (w.md + y) w.md }
+
+abbrev pub longer_in : ℕ → Slave → Slave
+longer_in y s = record s { waiting = longer_waiting y s.waiting }
+
+module _ (y : ℕ) (s : Slave) where
+  abbrev Longer : Slave → Slave → Type 0
+  Longer x x' = x' ≡ longer_in y x
+
+  -- a step that takes no notice
+  pub counted_longer : (k tick : ℕ) → Longer (step_of s (Counts k) tick).slave (step_of (longer_in y s) (Counts k) tick).slave
+  unfolding step_of counted passed unheard
+  counted_longer k tick = grind (arith, nat_tests)
+
+  pub gapped_longer : (k : ℕ) → Longer (gapped s k) (gapped (longer_in y s) k)
+  unfolding gapped
+  gapped_longer k = grind (arith, nat_tests)
+
+  -- the mark, where its own notice makes it due
+  module _ (tick profile : ℕ) (d : Due) (o : OwnDue s tick profile d) where
+    abbrev due_longer : Due
+    due_longer = due_of (second s.board.profile) s.waiting.sts (s.waiting.md + y) s.settings.od s.board.tad tick
+
+    at_longer : mark_at (longer_in y s) tick ≡ due profile due_longer
+    unfolding mark_at release_at
+    at_longer = rw (o.locked, o.label, o.pending, o.unit)
+
+    pub step_longer : (j : Judgement) → mark_in (step_of s j tick).reply ≡ due profile d → mark_in (step_of (longer_in y s) j tick).reply ≡ due profile due_longer
+    unfolding step_of counted passed took mark_taken
+    step_longer (Refuse k) e = absurd (unmarked_apart profile d e)
+    step_longer (Counts k) e =
+        ap (λ (r : Result Report). mark_in r.reply) (yes (eqb s.count.phase 2) _ _ (rw o.locked refl)) ∙ at_longer
+    step_longer (Takes x) e =
+        let u = unmarked_apart profile d in
+        let v = untimed_apart profile d in
+        let l = at_longer in
+        grind (arith, nat_tests)
