@@ -1,7 +1,7 @@
 -- Document 01's example of a log, computed over the definitions: whole, and in two pieces.
 use mathlib.Core.Path.{◌≡◌, refl}
 use mathlib.Core.List.{List, [], ◌∷◌, ◌++◌}
-use Prim.Native.Nat.{ℕ}
+use Prim.Native.Nat.{ℕ, ◌-◌}
 use lib.Dec.{lit≤}
 use lib.ListN.{replicate, take, drop}
 use Rattle.wire.specs.Standards.{sync_byte}
@@ -69,7 +69,7 @@ one =
       input = record0 ++ part ++ replicate 98 0;
       input' = part ++ drop 10 record0 ++ part ++ replicate 98 0;
       output = replicate line_room 0;
-      output' = line0 ++ replicate 76 0;
+      output' = line0 ++ replicate (line_room - 8) 0;
       answer = record { slave = slave; number = 1; filled = 8; held = 10 };
     }
 
@@ -80,8 +80,8 @@ two =
       n = 192;
       input = record1 ++ part ++ replicate 98 0;
       input' = record1 ++ part ++ replicate 98 0;
-      output = line0 ++ replicate 76 0;
-      output' = line1 ++ replicate 72 0;
+      output = line0 ++ replicate (line_room - 8) 0;
+      output' = line1 ++ replicate (line_room - 12) 0;
       answer = record { slave = slave; number = 2; filled = 12; held = 0 };
     }
 

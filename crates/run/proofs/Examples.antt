@@ -21,7 +21,7 @@ use Rattle.state.specs.Sound.{is_zero, frequency_fits, index_fits, is_nothing, w
 use Rattle.state.specs.declared.Board.{Board}
 use Rattle.state.specs.declared.Slave.{Slave}
 use Rattle.judging.specs.Judge.{arrival_refusal, carries, taken_refusal, limited, judge_mip, judge_arrived, judge_given}
-use Rattle.slave.specs.Answer.{Notice, absent, taken, slip, ignored, Mark, unmarked, untimed, due, Report, label_in, notice_in, mark_in}
+use Rattle.slave.specs.Answer.{Notice, absent, taken, slip, ignored, Mark, unmarked, untimed, due, Report, label_in, notice_in}
 use Rattle.slave.specs.Step.{release_at, mark_at, passed, unheard, counted, mark_taken, notice_taken, took, step_of}
 use Rattle.slave.specs.Gap.{gapped}
 use Rattle.slave.specs.Calls.{start_of, packet_of, numbers_of, gap_of}

@@ -26,17 +26,17 @@ use Rattle.run.proofs.Steps.{stepped, moved, moves, RightStep, board_stays, any_
 
 -- ---- on a sound slave a call is its step, and leaves a sound slave
 module _ (s : Slave) (ok : sound s ≡ true) where
-  heard : (a : Arrival) → hear s a ≡ stepped s a
+  pub heard : (a : Arrival) → hear s a ≡ stepped s a
   unfolding hear judged
   heard (packet form p tick) = packet_is_step s ok p tick
   heard (numbers p tick x) = numbers_is_step s ok p tick x
 
-  left_by : (c : Call) → leave s c ≡ moved s c
+  pub left_by : (c : Call) → leave s c ≡ moved s c
   unfolding leave
   left_by (at t a) = ap (λ (r : Result Report). r.slave) (heard a)
   left_by (gap k) = ap (λ (r : Result (Unit {0})). r.slave) (gap_is_step s ok k)
 
-  leave_sound : (c : Call) → sound (leave s c) ≡ true
+  pub leave_sound : (c : Call) → sound (leave s c) ≡ true
   unfolding leave hear
   leave_sound (at t (packet form p tick)) = packet_sound s ok p tick
   leave_sound (at t (numbers p tick x)) = numbers_sound s ok p tick x

@@ -1,23 +1,20 @@
 -- Two slaves that are alike but for the notice that waits, whose MD is longer by y in the one: every step leaves them so, and where the one finds its
 -- mark late the other reckons with the longer MD.
 use mathlib.Core.Path.{◌≡◌, refl, ap, ◌∙◌}
-use mathlib.Core.Bool.{true, cond}
+use mathlib.Core.Bool.{cond}
 use Prim.Native.Nat.{ℕ, ◌+◌}
 use native.Mathlib.Omega.{arith}
-use lib.Dec.{eqb, leb}
-use lib.IntN.{ℤ}
+use lib.Dec.{eqb}
 use Rattle.std.proofs.lemmas.Bool.Decides.{nat_tests}
 use Rattle.wire.proofs.Tests.{yes}
 use Rattle.times.specs.Release.{Due, due_of}
 use Rattle.state.specs.Profile.{second}
-use Rattle.state.specs.Slave.{nothing}
 use Rattle.state.specs.declared.Waiting.{Waiting}
 use Rattle.state.specs.declared.Slave.{Slave}
 use Rattle.judging.specs.Judgement.{Judgement, Refuse, Counts, Takes}
-use Rattle.judging.specs.declared.Taken.{Taken}
 use Rattle.slave.specs.Answer.{due, mark_in, Report, Result}
-use Rattle.slave.specs.Step.{release_at, mark_at, mark_taken, passed, unheard, counted, agrees, took, step_of}
-use Rattle.slave.specs.Gap.{to_mark, gapped}
+use Rattle.slave.specs.Step.{release_at, mark_at, mark_taken, passed, unheard, counted, took, step_of}
+use Rattle.slave.specs.Gap.{gapped}
 use Rattle.slave.proofs.Due.{unmarked_apart, untimed_apart, OwnDue}
 
 abbrev pub longer_waiting : ℕ → Waiting → Waiting
@@ -40,15 +37,15 @@ module _ (y : ℕ) (s : Slave) where
   gapped_longer k = grind (arith, nat_tests)
 
   -- the mark, where its own notice makes it due
-  module _ (tick profile : ℕ) (d : Due) (o : OwnDue s tick profile d) where
-    abbrev due_longer : Due
-    due_longer = due_of (second s.board.profile) s.waiting.sts (s.waiting.md + y) s.settings.od s.board.tad tick
+  abbrev pub due_longer : ℕ → Due
+  due_longer tick = due_of (second s.board.profile) s.waiting.sts (s.waiting.md + y) s.settings.od s.board.tad tick
 
-    at_longer : mark_at (longer_in y s) tick ≡ due profile due_longer
+  module _ (tick profile : ℕ) (d : Due) (o : OwnDue s tick profile d) where
+    at_longer : mark_at (longer_in y s) tick ≡ due profile (due_longer tick)
     unfolding mark_at release_at
     at_longer = rw (o.locked, o.label, o.pending, o.unit)
 
-    pub step_longer : (j : Judgement) → mark_in (step_of s j tick).reply ≡ due profile d → mark_in (step_of (longer_in y s) j tick).reply ≡ due profile due_longer
+    pub step_longer : (j : Judgement) → mark_in (step_of s j tick).reply ≡ due profile d → mark_in (step_of (longer_in y s) j tick).reply ≡ due profile (due_longer tick)
     unfolding step_of counted passed took mark_taken
     step_longer (Refuse k) e = absurd (unmarked_apart profile d e)
     step_longer (Counts k) e =

@@ -21,7 +21,7 @@ notice_text (ignored k) = decimal k
 abbrev pub mark_text : Mark → List ℕ
 mark_text unmarked = dash
 mark_text untimed = untimed_word
-mark_text (due profile (late x)) = late_word ++ (space ∷ []) ++ decimal x
+mark_text (due profile (late x)) = late_word ++ decimal x
 mark_text (due profile (released t)) = decimal t.emission
 
 abbrev pub report_text : Report → List ℕ

@@ -9,7 +9,7 @@ column_room = most_digits
 
 -- the mark's column: a late mark has its word and a number
 abbrev pub mark_room : ℕ
-mark_room = length late_word + 1 + most_digits
+mark_room = length late_word + most_digits
 
 -- the three columns, a byte behind each
 abbrev pub report_room : ℕ

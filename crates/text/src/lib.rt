@@ -2,7 +2,7 @@
 // Not by `Display`: nothing that `write!` promises says that it answers `Ok`, so a line with room would not be known to be put (tried).
 #![tactic(auto)]
 
-ghost use Rattle.std.specs.Prelude.{◌≡◌, [], ◌∷◌, ◌+◌, ◌-◌, ◌≤◌, length};
+ghost use Rattle.std.specs.Prelude.{◌≡◌, [], ◌∷◌, ◌++◌, ◌+◌, ◌-◌, ◌≤◌, length};
 ghost use Rattle.times.specs.Answer.{due_in};
 ghost use Rattle.slave.specs.Answer.{due, option_of, notice_of, mark_of, report_of, answer_of};
 ghost use Rattle.text.specs.Decimal.{decimal, most_digits};
@@ -23,14 +23,14 @@ const REFUSED_WORD: &[u8] = b"refused ";
 
 const END_WORD: &[u8] = b"end ";
 
-const LATE_WORD: &[u8] = b"late";
+const LATE_WORD: &[u8] = b"late ";
 
 // The most bytes that each part takes: specs/Rooms.antt.
 const MOST_DIGITS: usize = 20;
 
 const COLUMN_ROOM: usize = MOST_DIGITS;
 
-const MARK_ROOM: usize = LATE_WORD.len() + 1 + MOST_DIGITS;
+const MARK_ROOM: usize = LATE_WORD.len() + MOST_DIGITS;
 
 const REPORT_ROOM: usize = COLUMN_ROOM + 1 + COLUMN_ROOM + 1 + MARK_ROOM + 1;
 
@@ -130,11 +130,7 @@ impl Page<'_> {
         ensures puts { Puts mark_room self.old.out.now self.old.at (mark_text (due T.PROFILE (due_in T.count d))) self.new.out.now self.new.at }
     {
         match d {
-            Due::Late(x) => {
-                self.word(LATE_WORD);
-                self.byte(b' ');
-                self.decimal(x.count().into());
-            }
+            Due::Late(x) => self.counted(LATE_WORD, x.count().into()),
             Due::Released(t) => self.decimal(t.emission.count().into()),
         }
     }
@@ -153,14 +149,23 @@ impl Page<'_> {
         self.byte(b'\n');
     }
 
-    // A word and its number at the end of a line.
+    // A word and its number.
+    fn counted(&mut self, word: &[u8], n: u64)
+        requires { self.old.at + (length word.now + most_digits) ≤ length self.old.out.now }
+        ensures same { self.new.out.ghost_name ≡ self.old.out.ghost_name }
+        ensures puts { Puts (length word.now + most_digits) self.old.out.now self.old.at (word.now ++ decimal n) self.new.out.now self.new.at }
+    {
+        self.word(word);
+        self.decimal(n);
+    }
+
+    // The same at the end of a line.
     fn numbered(&mut self, word: &[u8], n: u64)
         requires { self.old.at + numbered_room word.now ≤ length self.old.out.now }
         ensures same { self.new.out.ghost_name ≡ self.old.out.ghost_name }
         ensures puts { Puts (numbered_room word.now) self.old.out.now self.old.at (numbered word.now n) self.new.out.now self.new.at }
     {
-        self.word(word);
-        self.decimal(n);
+        self.counted(word, n);
         self.byte(b'\n');
     }
 
