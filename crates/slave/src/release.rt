@@ -2,7 +2,7 @@
 // tick is one of its second.
 ghost use Rattle.std.specs.Prelude.{◌≡◌, true, ◌+◌, ◌<◌, ◌^◌};
 ghost use Rattle.times.specs.Answer.{number, times_in, due_in};
-ghost use Rattle.times.specs.Release.{wrap, reference, emission, modulation, link_delay, wait, delay_fits, times_of, due_of};
+ghost use Rattle.times.specs.Release.{wrap, reference, emission, modulation, link_delay, wait, negative, lateness, delay_fits, times_of, due_of};
 ghost use Rattle.state.specs.Profile.{second};
 ghost use Rattle.slave.specs.Answer.{mark_of};
 ghost use Rattle.slave.specs.Step.{release_at};
@@ -34,6 +34,15 @@ fn wrapped(u: u32, x: u32) -> u32
     ensures { result ≡ wrap u x }
 {
     if x < u { x } else { x - u }
+}
+
+// How late a mark with this wait is: minus the wait. `as` is proved to lose nothing.
+fn lateness(wait: i64) -> u32
+    requires late { negative wait ≡ true }
+    requires small { lateness wait < 2 ^ 32 }
+    ensures { result ≡ lateness wait }
+{
+    -wait as u32
 }
 
 impl Arrival {
@@ -97,14 +106,14 @@ impl Arrival {
         }
     }
 
-    // The times in the unit T, or the lateness: minus the wait, which is proved to fit.
+    // The times in the unit T, or the lateness.
     #[tactic(auto, using(times::proofs::Formulas::link_less), unfolding(times::specs::Release::due_of, times::specs::Release::delay_fits, times::specs::Whole::within))]
     fn due<T: Unit>(self) -> Due<T>
         ensures { due_in T.count result ≡ due_of self.u self.sts self.md self.od self.tad self.tick }
     {
         let times = self.times();
         if times.wait < 0 {
-            return Due::Late(T::of(-times.wait as u32));
+            return Due::Late(T::of(lateness(times.wait)));
         }
         Due::Released(times.into())
     }
