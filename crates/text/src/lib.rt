@@ -130,7 +130,7 @@ impl Page<'_> {
         ensures puts { Puts mark_room self.old.out.now self.old.at (mark_text (due T.PROFILE (due_in T.count d))) self.new.out.now self.new.at }
     {
         match d {
-            Due::Late(x) => self.counted(LATE_WORD, x.count().into()),
+            Due::Late(x) => self.worded(LATE_WORD, x.count().into()),
             Due::Released(t) => self.decimal(t.emission.count().into()),
         }
     }
@@ -149,8 +149,8 @@ impl Page<'_> {
         self.byte(b'\n');
     }
 
-    // A word and its number.
-    fn counted(&mut self, word: &[u8], n: u64)
+    // A number behind its word.
+    fn worded(&mut self, word: &[u8], n: u64)
         requires { self.old.at + (length word.now + most_digits) ≤ length self.old.out.now }
         ensures same { self.new.out.ghost_name ≡ self.old.out.ghost_name }
         ensures puts { Puts (length word.now + most_digits) self.old.out.now self.old.at (word.now ++ decimal n) self.new.out.now self.new.at }
@@ -165,7 +165,7 @@ impl Page<'_> {
         ensures same { self.new.out.ghost_name ≡ self.old.out.ghost_name }
         ensures puts { Puts (numbered_room word.now) self.old.out.now self.old.at (numbered word.now n) self.new.out.now self.new.at }
     {
-        self.counted(word, n);
+        self.worded(word, n);
         self.byte(b'\n');
     }
 
@@ -220,8 +220,7 @@ impl Page<'_> {
         if self.room() < SITE_ROOM {
             return;
         }
-        self.word(SITE_WORD);
-        self.decimal(site.into());
+        self.worded(SITE_WORD, site.into());
         self.numbered(CADENCE_WORD, n.into());
     }
 

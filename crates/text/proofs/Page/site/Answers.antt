@@ -7,4 +7,4 @@ use Rattle.text.proofs.Page.site.Goals as goal
 pub returns-clause-placed : goal.returns-clause-placed
 unfolding site_line
 returns-clause-placed c =
-    puts_placed (search rules) (retext (cc) (then (then c.word.ensures.puts c.decimal.ensures.puts) c.numbered.ensures.puts))
+    puts_placed (search rules) (retext (cc) (then c.worded.ensures.puts c.numbered.ensures.puts))
