@@ -30,7 +30,11 @@ pub struct Reading {
 impl Mark {
     /// 0 none, 1 untimed, 2 late, 3 released in either profile.
     pub fn class(&self) -> u8 {
-        self.kind.min(3)
+        match self.kind {
+            0 | 1 => self.kind,
+            2 | 3 => 2,
+            _ => 3,
+        }
     }
 }
 
@@ -84,15 +88,15 @@ impl From<(Slave, Result<slave::Reply, u8>)> for Step {
             NoticePart::Slip => (2, 0),
             NoticePart::Ignored(number) => (3, number),
         };
-        let (kind, number, times) = match mark {
-            MarkPart::None => (0, 0, Times::default()),
-            MarkPart::Untimed => (1, 0, Times::default()),
-            MarkPart::Late => (2, 14, Times::default()),
-            MarkPart::Released(times) => (3 + slave.profile, 0, times.into()),
+        let mark = match mark {
+            MarkPart::None => Mark::default(),
+            MarkPart::Untimed => Mark { kind: 1, ..Mark::default() },
+            MarkPart::Late(lateness) => Mark { kind: 2 + slave.profile, number: 14, lateness, ..Mark::default() },
+            MarkPart::Released(times) => Mark { kind: 4 + slave.profile, times: times.into(), ..Mark::default() },
         };
         let (has_label, has_place) = (label.is_some(), place.is_some());
         let (label, place) = (label.unwrap_or(0), place.unwrap_or(0));
-        Step { slave, reply: Reply { number: 0, has_label, label, notice, ignored, turn, has_place, place, mark: Mark { kind, number, times } } }
+        Step { slave, reply: Reply { number: 0, has_label, label, notice, ignored, turn, has_place, place, mark } }
     }
 }
 

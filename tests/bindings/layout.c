@@ -50,6 +50,8 @@ int main(void)
     STRUCT(mark);
     FIELD(mark, kind);
     FIELD(mark, number);
+    FIELD(mark, dvb_late);
+    FIELD(mark, a110_late);
     FIELD(mark, dvb);
     FIELD(mark, a110);
     STRUCT(reply);

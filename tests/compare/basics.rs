@@ -128,7 +128,7 @@ impl Comparison<Basics> {
         Ok(())
     }
 
-    /// Which limits refused a release, and which sums fell on a limit or beside it.
+    /// Which limits refused a release, and which sums fell on a limit or beside it; and how late it was.
     fn saw_limits(&mut self, profile: u8, m: Moment, number: u8, reply: &Reply) {
         let whose = RELEASE[usize::from(profile)];
         let [u, sts, md, tad, arrival] = [second(profile), m.sts, m.md, m.tad, m.arrival].map(i64::from);
@@ -147,6 +147,9 @@ impl Comparison<Basics> {
         }
         if [0, 14].contains(&number) {
             self.saw(whose, "wait", md + od - tad - (arrival - sts).rem_euclid(u));
+        }
+        if number == 14 {
+            self.saw(whose, "lateness", reply.mark.lateness);
         }
         if number == 0 {
             self.saw(whose, "released, STS + MD", sts + md);
@@ -447,6 +450,7 @@ fn required() -> Cases {
             (whose, "MD + OD", vec![-1, 0, u - 1, u]),
             (whose, "MD + OD + TAD", vec![0, 1, u - 1, u]),
             (whose, "wait", vec![-1, 0, 1]),
+            (whose, "lateness", vec![1, u - 1, u, u + 1, 2 * (u - 1)]),
             (whose, "released, STS + MD", vec![u - 1, u, u + 1]),
             (whose, "released, STS + MD + OD", vec![u - 1, u, u + 1]),
             (whose, "released, STS + MD + OD - TAD", vec![u - 1, u, u + 1]),

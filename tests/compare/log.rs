@@ -4,7 +4,7 @@ use super::comparison::{Cases, Compared, Comparison, Difference, Subject};
 use super::shrink;
 use crate::inputs::notices;
 use crate::inputs::random::Random;
-use crate::other::basics::{dvb_cadences, second, Notice};
+use crate::other::basics::{self, dvb_cadences, second, Notice};
 use crate::other::faults::{self, Fault};
 use crate::other::log::{log, RECORD, SETTINGS};
 use std::io::{Read, Write};
@@ -42,7 +42,12 @@ fn settings(r: &mut Random, odd: bool) -> Vec<u8> {
     let cadences: Vec<u16> = dvb_cadences().collect();
     let n = if profile == 1 { 624 } else { r.pick(&cadences) };
     let site = r.pick(&[1, 7, 256, 65_535, r.0 as u16 | 1]);
-    let tad = if r.one_in(2) { 0 } else { r.below(1_000) as u32 };
+    let tad = match r.below(8) {
+        0..=3 => 0,
+        4..=6 => r.below(1_000) as u32,
+        // every mark is late, by about a second
+        _ => second(profile) - 1 - r.below(1_000) as u32,
+    };
     let put = |profile: u8, n: u16, site: u16, tad: u32| [&[profile][..], &n.to_be_bytes(), &site.to_be_bytes(), &tad.to_be_bytes()].concat();
     if !odd {
         return put(profile, n, site, tad);
@@ -66,6 +71,7 @@ fn capture(r: &mut Random) -> Vec<u8> {
     }
     let (profile, n) = (capture[0], u16::from_be_bytes([capture[1], capture[2]]).max(2));
     let site = u16::from_be_bytes([capture[3], capture[4]]);
+    let tad = u32::from_be_bytes([capture[5], capture[6], capture[7], capture[8]]);
     let second = second(profile);
     let records = match r.below(20) {
         0 => 0,
@@ -111,6 +117,12 @@ fn capture(r: &mut Random) -> Vec<u8> {
         let tick = match r.below(16) {
             0 => r.pick(&notices::edges(second)),
             1 => r.below(second as usize) as u32,
+            // where OD is 0, late by 1, or by a number of any length
+            2..=4 => {
+                let most = 10_usize.pow(r.below(8) as u32);
+                let [u, sts, md, tad] = [second, sts, md, tad].map(i64::from);
+                (sts + md - tad + 1 + r.below(most) as i64).rem_euclid(u) as u32
+            }
             _ => (sts + r.below(2 * md as usize + 1) as u32) % second,
         };
         // A packet of another length shifts every record after it.
@@ -224,7 +236,7 @@ fn kinds(printed: &[u8], mut saw: impl FnMut(&'static str, i64)) {
     for line in &lines[1..lines.len() - 1] {
         match line.split(' ').collect::<Vec<_>>()[1..] {
             ["refused", number] => saw("record refused with", number.parse().unwrap_or(0)),
-            [label, notice, mark] => {
+            [label, notice, ref mark @ ..] => {
                 let taken = "notice none (0), taken (1), slip (2)";
                 match notice {
                     "-" => saw(taken, 0),
@@ -232,14 +244,31 @@ fn kinds(printed: &[u8], mut saw: impl FnMut(&'static str, i64)) {
                     "slip" => saw(taken, 2),
                     number => saw(if label == "-" { "hunting, ignored with" } else { "locked, ignored with" }, number.parse().unwrap_or(0)),
                 }
-                saw(
-                    "mark none (0), untimed (1), late (2), emission (3)",
-                    ["-", "untimed", "late"].iter().position(|kind| *kind == mark).unwrap_or(3) as i64,
-                );
+                let kind = match mark {
+                    ["-"] => 0,
+                    ["untimed"] => 1,
+                    ["late", lateness] => {
+                        saw("lateness", lateness.parse().unwrap_or(0));
+                        saw("digits of a lateness", lateness.len() as i64);
+                        2
+                    }
+                    _ => 3,
+                };
+                saw("mark none (0), untimed (1), late (2), emission (3)", kind);
             }
             _ => {}
         }
     }
+}
+
+/// One record for two, where the first is a notice: it stands a packet nearer to its mark.
+fn joined(notice: &[u8]) -> Option<Vec<u8>> {
+    let (tick, packet) = notice.split_at_checked(4)?;
+    let (Notice { pointer, .. }, _) = basics::read(packet).ok()?;
+    let mut nearer = packet.to_vec();
+    nearer[6..8].copy_from_slice(&pointer.checked_sub(1)?.to_be_bytes());
+    notices::reseal(&mut nearer);
+    Some([tick, &nearer].concat())
 }
 
 fn delivery(r: &mut Random, length: usize) -> Delivery {
@@ -266,20 +295,21 @@ impl Comparison<Captures> {
         Ok(())
     }
 
-    /// The shortest capture found, by leaving records out, on which the program and the other implementation still differ.
+    /// The shortest capture found, by leaving records out and moving notices nearer to their marks, on which the program and the other implementation
+    /// still differ.
     fn shortened_capture(&self, capture: &[u8], how: Delivery) -> Difference {
         let (settings, records) = capture.split_at(capture.len().min(SETTINGS));
-        let records: Vec<&[u8]> = records.chunks(RECORD).collect();
-        let with = |records: &[&[u8]]| [settings, &records.concat()].concat();
-        let both = |records: &[&[u8]]| {
+        let records: Vec<Vec<u8>> = records.chunks(RECORD).map(<[u8]>::to_vec).collect();
+        let with = |records: &[Vec<u8>]| [settings, &records.concat()].concat();
+        let both = |records: &[Vec<u8>]| {
             let capture = with(records);
             [printed(&capture, how, &mut Random(1)), log(&capture)]
         };
-        let differ = |records: &[&[u8]]| {
+        let differ = |records: &[Vec<u8>]| {
             let [ours, other] = both(records);
             (ours != other).then_some(records.len())
         };
-        let shortest = shrink::shortest(&records, differ, |_, _| Vec::new(), |_| Vec::new());
+        let shortest = shrink::shortest(&records, differ, |one, _| joined(one).into_iter().collect(), |_| Vec::new());
         let [ours, other] = both(&shortest);
         let again = ours != other;
         let [ours, other] = [ours, other].map(|text| String::from_utf8_lossy(&text).into_owned());
@@ -305,5 +335,7 @@ fn required() -> Cases {
         ("log", "hunting, ignored with", vec![4, 6, 7, 8, 9, 10, 11, 12, 13]),
         ("log", "locked, ignored with", vec![4, 6, 7, 8, 9, 10, 11, 12, 13]),
         ("log", "mark none (0), untimed (1), late (2), emission (3)", vec![0, 1, 2, 3]),
+        ("log", "lateness", vec![1]),
+        ("log", "digits of a lateness", (1..=8).collect()),
     ]
 }

@@ -1,5 +1,5 @@
 /* Holds each name of include/vikombare.h to an input of its kind: a refusal by the example that document 01's table has for it, and the phases, the kinds
- * of mark and what becomes of a notice. The same file is C11 and C++11. */
+ * of mark and what becomes of a notice; and how late a mark was, in each profile. The same file is C11 and C++11. */
 #include <stdio.h>
 #include <string.h>
 
@@ -118,10 +118,12 @@ static void kinds(void)
     due = slave;
     reply = heard(&slave, null, 9900000);
     HOLD(VIKOMBARE_MARK_DVB_RELEASED, reply.mark.kind);
+    hold("the lateness of a mark in time", 0, reply.mark.dvb_late.steps);
     slave = due;
     reply = heard(&slave, null, 200001);
-    HOLD(VIKOMBARE_MARK_LATE, reply.mark.kind);
+    HOLD(VIKOMBARE_MARK_DVB_LATE, reply.mark.kind);
     HOLD(VIKOMBARE_REFUSED_LATE, reply.mark.number);
+    hold("P3's lateness", 1, reply.mark.dvb_late.steps);
     HOLD(VIKOMBARE_NOTICE_SLIP, heard(&slave, mip, 5).notice);
     slave.waiting.pending = 0;
     slave.waiting.sts = slave.waiting.md = 0;
@@ -131,7 +133,16 @@ static void kinds(void)
     HOLD(VIKOMBARE_ACCEPTED, vikombare_a110_start(&slave, 624, SITE, tad));
     HOLD(VIKOMBARE_PROFILE_A110, slave.board.profile);
     HOLD(VIKOMBARE_NOTICE_TAKEN, vikombare_numbers(&slave, null, PACKET, arrival, numbers).notice);
-    HOLD(VIKOMBARE_MARK_A110_RELEASED, vikombare_packet(&slave, null, PACKET, vikombare_a110_tick(arrival)).mark.kind);
+    due = slave;
+    reply = vikombare_packet(&slave, null, PACKET, vikombare_a110_tick(arrival));
+    HOLD(VIKOMBARE_MARK_A110_RELEASED, reply.mark.kind);
+    hold("the lateness of a mark in time, profile 1", 0, reply.mark.a110_late.periods);
+    slave = due;
+    arrival.periods = 700001;
+    reply = vikombare_packet(&slave, null, PACKET, vikombare_a110_tick(arrival));
+    HOLD(VIKOMBARE_MARK_A110_LATE, reply.mark.kind);
+    HOLD(VIKOMBARE_REFUSED_LATE, reply.mark.number);
+    hold("the lateness two periods after the modulation time", 2, reply.mark.a110_late.periods);
 }
 
 int main(void)

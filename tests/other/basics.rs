@@ -1,5 +1,5 @@
 //! The basics, which keep no state and on which the slave stands: the check value, notices read and written, the addressing field, the times of a
-//! mark, and the cadence. From document 01, Paper 2 of document 02, and ETSI TS 101 191.
+//! mark, and the cadence. From document 01, Papers 2 and 3 of document 02, and ETSI TS 101 191.
 
 use super::faults::{rule, Fault::*};
 
@@ -234,8 +234,17 @@ pub fn delay_fits(profile: u8, md: u32, od: i16, tad: u32) -> bool {
     (0..second).contains(&delay) && whole_fits
 }
 
-/// The times of a mark, or none where it is late (14). Every number is within its limits.
-pub fn release(profile: u8, sts: u32, md: u32, od: i16, tad: u32, arrival: u32) -> Option<Times> {
+/// The lateness of a mark: minus its wait, which is negative (02, Paper 3).
+fn lateness(wait: i64, second: i64) -> u32 {
+    let lateness = rule(-wait, WaitForLateness, wait.rem_euclid(second));
+    let lateness = rule(lateness, LatenessOneMore, lateness + 1);
+    let lateness = rule(lateness, LatenessOneLess, lateness - 1);
+    let lateness = rule(lateness, LatenessModuloSecond, lateness % second);
+    rule(lateness, LatenessZero, 0) as u32
+}
+
+/// The times of a mark; an error is how late it was (14). Every number is within its limits.
+pub fn release(profile: u8, sts: u32, md: u32, od: i16, tad: u32, arrival: u32) -> Result<Times, u32> {
     let [second, sts, md, tad, arrival] = [second(profile), sts, md, tad, arrival].map(i64::from);
     let od = i64::from(od);
     // A sum equal to U or above it loses U, once (02, Paper 2).
@@ -249,8 +258,10 @@ pub fn release(profile: u8, sts: u32, md: u32, od: i16, tad: u32, arrival: u32) 
     let link_delay = rule((arrival - sts).rem_euclid(second), LinkDelayNotReduced, arrival - sts);
     let wait = md + od - tad - link_delay;
     let wait = rule(wait, WaitModuloSecond, wait.rem_euclid(second));
-    let late = rule(wait < 0, LateAtZero, wait <= 0);
-    (!late).then_some(Times { reference: reference as u32, emission: emission as u32, modulation: modulation as u32, wait })
+    if rule(wait < 0, LateAtZero, wait <= 0) {
+        return Err(lateness(wait, second));
+    }
+    Ok(Times { reference: reference as u32, emission: emission as u32, modulation: modulation as u32, wait })
 }
 
 // ---- Cadence (01, "Cadence"; number 12)

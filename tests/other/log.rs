@@ -1,4 +1,4 @@
-//! The log program: from a capture's bytes to the lines that it prints. From document 01, over the slave.
+//! The log program: from a capture's bytes to the lines that it prints. From document 01 and Paper 3 of document 02, over the slave.
 
 use super::faults::{rule, Fault::*};
 use super::slave::{MarkPart, NoticePart, Slave};
@@ -142,7 +142,12 @@ fn mark(out: &mut Vec<u8>, part: MarkPart) {
     match part {
         MarkPart::None => out.push(b'-'),
         MarkPart::Untimed => out.extend(rule(&b"untimed"[..], UntimedHidden, b"-")),
-        MarkPart::Late => out.extend(rule(&b"late"[..], LateUntimed, b"untimed")),
+        MarkPart::Late(_) if rule(false, LateUntimed, true) => out.extend(b"untimed"),
+        MarkPart::Late(_) if rule(false, LatenessHidden, true) => out.extend(b"late"),
+        MarkPart::Late(lateness) => {
+            out.extend(rule(rule(&b"late "[..], LatenessUnspaced, b"late"), LatenessSigned, b"late -"));
+            number(out, lateness.into());
+        }
         MarkPart::Released(times) => {
             number(out, rule(rule(times.emission, ModulationShown, times.modulation), ReferenceShown, times.reference).into())
         }

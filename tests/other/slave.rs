@@ -56,7 +56,8 @@ pub enum NoticePart {
 pub enum MarkPart {
     None,
     Untimed,
-    Late,
+    /// How late.
+    Late(u32),
     Released(Times),
 }
 
@@ -350,9 +351,9 @@ impl Slave {
         let mark = if pending == 0 {
             rule(MarkPart::Untimed, FirstLockUnmarked, if phase == HUNTING { MarkPart::None } else { MarkPart::Untimed })
         } else {
-            basics::release(profile, sts, md, od, tad, tick).map_or(MarkPart::Late, MarkPart::Released)
+            basics::release(profile, sts, md, od, tad, tick).map_or_else(MarkPart::Late, MarkPart::Released)
         };
-        if rule(true, LateKept, mark != MarkPart::Late) {
+        if rule(true, LateKept, !matches!(mark, MarkPart::Late(_))) {
             self.clear();
             (self.sts, self.md) = rule((0, 0), ReleasedTimesLeft, (sts, md));
         }

@@ -209,6 +209,21 @@ fn releases(v: &mut Vectors) {
             v.release(name, profile, [sts, 1_200, tad, sts], -100);
         }
     }
+    // Late by one unit across the pulse, and by U − 1 and more up to the most.
+    for (profile, sts, last) in [(0, 9_999_000, 9_999_999), (1, 19_391_658, 19_392_657)] {
+        v.release("modulation on the pulse, a tick behind it", profile, [sts, 1_100, 0, 1], -100);
+        v.release("modulation at U − 1, a tick on the pulse", profile, [sts, 1_100, 1, 0], -100);
+        for (name, arrival) in [("late by U − 1", 0), ("late by U", 1), ("late by U + 1", 2), ("late by 2 × (U − 1)", last)] {
+            v.release(name, profile, [0, 51, last, arrival], -51);
+        }
+    }
+    // The same arrival with an MD that is longer by the lateness, and by one less.
+    for (name, md) in [("late by 50,000", 700_000), ("MD longer by 50,000", 750_000), ("MD longer by 49,999", 749_999)] {
+        v.release(name, 0, [9_500_000, md, 0, 250_000], 0);
+    }
+    for (name, md) in [("late by 20,251", 100_000), ("MD longer by 20,251", 120_251), ("MD longer by 20,250", 120_250)] {
+        v.release(name, 1, [19_392_000, md, 200, 119_342], -51);
+    }
     v.release("arrival 10,000,000", 0, [9_500_000, 700_000, 0, 10_000_000], 0);
     v.release("arrival 19,392,658", 1, [0, 700_000, 0, 19_392_658], 0);
     v.release("STS 10,000,000", 0, [10_000_000, 700_000, 0, 0], 0);

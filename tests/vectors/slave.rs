@@ -9,6 +9,7 @@ pub fn all(v: &mut Vectors) {
     reckoned(v);
     refusals(v);
     steps(v);
+    late(v);
     indexes(v);
     saves(v);
 }
@@ -167,6 +168,28 @@ fn steps(v: &mut Vectors) {
     v.start("TAD 11", 0, 2016, 7, 11);
     v.packet("TAD above MD + OD", &notice(0, 0, 10, &[]), 5);
     v.packet("is always late", &null, 0);
+}
+
+/// How late a mark was: an MD that is longer by it is enough at the same arrival, and one by less is not; and the most in each profile.
+fn late(v: &mut Vectors) {
+    let null = null();
+    let of_md = |md| notice(0, 9_999_000, md, &[]);
+    v.start("TAD 200", 0, 2016, 7, 200);
+    v.packet("MD 1,100", &of_md(1_100), 5);
+    v.packet("is late by 200", &null, 100);
+    v.gap("up to label 2015", 2014);
+    v.packet("MD longer by 200", &of_md(1_300), 5);
+    v.packet("is in time", &null, 100);
+    v.gap("up to label 2015 again", 2014);
+    v.packet("MD longer by 199", &of_md(1_299), 5);
+    v.packet("is late by 1", &null, 100);
+    v.start("the highest TAD", 0, 2016, 7, 9_999_999);
+    v.packet("MD + OD of 0", &notice(0, 0, 51, &offset_entry(7, -51)), 5);
+    v.packet("late by 2 × (U − 1)", &null, 9_999_999);
+    v.start("the highest TAD, profile 1", 1, 624, 7, 19_392_657);
+    let m = Numbers { pointer: 0, sts: 0, md: 51, od: -51, index: 19 };
+    v.numbers("MD + OD of 0, profile 1", &null, 5, m);
+    v.numbers("late by 2 × (U − 1) beside a notice, profile 1", &null, 19_392_657, Numbers { pointer: 623, index: 0, ..m });
 }
 
 fn indexes(v: &mut Vectors) {

@@ -25,6 +25,7 @@ impl Subject for Calls {
         comparison.sweep_lengths()?;
         comparison.sweep_parts()?;
         comparison.sweep_ticks()?;
+        comparison.sweep_late()?;
         comparison.sweep_bits()?;
         comparison.sweep_pointers()?;
         comparison.sweep_gaps()
@@ -94,6 +95,7 @@ fn required() -> Cases {
         list.push((whose, "tick", vec![0, u - 1, u]));
         list.push((whose, "released at tick", vec![0, u - 1]));
         list.push((whose, "wait", vec![-1, 0, 1]));
+        list.push((whose, "lateness", vec![1, u - 1, u, u + 1, 2 * (u - 1)]));
         for sum in ["released, STS + MD", "released, STS + MD + OD", "released, STS + MD + OD - TAD"] {
             list.push((whose, sum, vec![u - 1, u, u + 1]));
         }

@@ -140,6 +140,9 @@ impl Comparison<Calls> {
                 self.saw(whose, "released, STS + MD + OD - TAD", sts + md + od - tad);
             }
         }
+        if mark == 2 {
+            self.saw(whose, "lateness", reply.mark.lateness);
+        }
         if mark == 3 {
             self.saw(whose, "reference", reply.mark.times.reference);
             self.saw(whose, "emission", reply.mark.times.emission);

@@ -145,6 +145,28 @@ impl Comparison<Calls> {
         Ok(())
     }
 
+    /// A due mark that is late by anything from one unit to two seconds less two: MD + OD and TAD on their limits, and ticks about STS.
+    pub fn sweep_late(&mut self) -> Compared {
+        for slave in kinds().into_iter().filter(|slave| slave.pending == 1) {
+            let (mip, numbers) = self.notices(&slave);
+            let plain = plain_packet(&mut self.random);
+            let u = second(slave.profile);
+            for delay in [0, 1, 2] {
+                for tad in [0, 1, 2, u - 2, u - 1] {
+                    for link_delay in [0, 1, 2, u - 2, u - 1] {
+                        let due = Slave { tad, md: 51 + delay, ..slave };
+                        let tick = (due.sts + link_delay) % u;
+                        self.packet(due, &mip, tick)?;
+                        self.packet(due, &plain, tick)?;
+                        self.numbers(due, &plain, tick, &numbers)?;
+                        self.numbers(due, &plain, tick, &Numbers { md: 52, ..numbers })?;
+                    }
+                }
+            }
+        }
+        Ok(())
+    }
+
     /// Every bit of a MIP, with the check value made right and not, and every value of its first bytes.
     pub fn sweep_bits(&mut self) -> Compared {
         for slave in kinds() {
