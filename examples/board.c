@@ -130,7 +130,7 @@ static void dvb_board(void)
     print_reply(vikombare_packet(&slave, null, PACKET, vikombare_a110_tick(periods(600000))));
     feed_dvb(&slave, null, 600000);
 
-    /* its modulation time is 899,850, and it comes after that */
+    /* A mark that comes late: its modulation time is 899,850. */
     notice_packet(packet, 2012, 200000, 700000, offset, 0);
     feed_dvb(&slave, packet, 650000);
     number = vikombare_gap(&slave, 2012);

@@ -25,8 +25,8 @@ abbrev pub example : ℕ → List ℤ → List ℤ → Example
 example k c s = record { number = k; computed = c; stated = s }
 
 -- P3's mark, of STS 9,500,000 and MD 700,000, that comes at this tick
-abbrev pub mark_at : ℕ → Mark
-mark_at arrival = due 0 (due_of dvb_second 9_500_000 700_000 (pos 0) 0 arrival)
+abbrev pub p3_mark : ℕ → Mark
+p3_mark arrival = due 0 (due_of dvb_second 9_500_000 700_000 (pos 0) 0 arrival)
 
 -- P8's slave: profile 0, n 2016, next label 2010, with a pending notice
 abbrev pub near_mark : Slave
@@ -50,7 +50,7 @@ table =
     (pos 0 ∷ [])
     -- arrival 200,001: late, 14, by 1 (Paper 3), where 200,000 was not
     ∷ example 3
-    (pos (mark_number (mark_at 200_001)) ∷ pos (mark_lateness (mark_at 200_001)) ∷ pos (mark_number (mark_at 200_000)) ∷ [])
+    (pos (mark_number (p3_mark 200_001)) ∷ pos (mark_lateness (p3_mark 200_001)) ∷ pos (mark_number (p3_mark 200_000)) ∷ [])
     (pos 14 ∷ pos 1 ∷ pos 0 ∷ [])
     -- STS 9,300,000, MD 700,000, OD 0: reference and emission (Paper 2)
     ∷ example 4

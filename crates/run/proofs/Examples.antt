@@ -57,8 +57,11 @@ quiet tick = packet in_place clean tick
 abbrev plain : ℕ → ℕ → Call
 plain t tick = at t (quiet tick)
 
+abbrev tells_md : (md pointer t tick : ℕ) → ℤ → Arrival
+tells_md md pointer t tick od = numbers clean tick (record { pointer = pointer; sts = record { 0 = sts (t / 624) }; md = record { 0 = md }; od = od; index = 255 })
+
 abbrev tells : (pointer t tick : ℕ) → ℤ → Arrival
-tells pointer t tick od = numbers clean tick (record { pointer = pointer; sts = record { 0 = sts (t / 624) }; md = record { 0 = 100 }; od = od; index = 255 })
+tells = tells_md 100
 
 abbrev note : (pointer t tick : ℕ) → ℤ → Call
 note pointer t tick od = at t (tells pointer t tick od)
@@ -252,61 +255,53 @@ read = (
     slip_run : Run g A slip_calls
     slip_run = computed.1.run
 
--- ---- late marks, and the same notices with MD longer by as much
+-- ---- late marks, and the same with MD longer by as much
 
--- P3: a MIP before the mark, of STS 9,500,000 and an MD of 700,000 or 700,001; the mark comes at 200,001
-abbrev p3 : (md c₀ c₁ c₂ c₃ : ℕ) → Arrival
-p3 md c₀ c₁ c₂ c₃ =
+-- P3: a MIP before the mark, of STS 9,500,000 and an MD of 700,000 or 700,001: its lowest byte is 0x60 or 0x61. The mark comes at 200,001
+abbrev p3_notice : (low c₀ c₁ c₂ c₃ : ℕ) → Arrival
+p3_notice low c₀ c₁ c₂ c₃ =
     packet in_place
-    (0x47 ∷ 0x60 ∷ 0x15 ∷ 0x10 ∷ 0x00 ∷ 0x13 ∷ 0x00 ∷ 0x00 ∷ 0x80 ∷ 0x00 ∷ 0x90 ∷ 0xF5 ∷ 0x60 ∷ 0x0A ∷ 0xAE ∷ md ∷ 0x00 ∷ 0x00 ∷ 0x00 ∷ 0x00 ∷ 0x00
+    (0x47 ∷ 0x60 ∷ 0x15 ∷ 0x10 ∷ 0x00 ∷ 0x13 ∷ 0x00 ∷ 0x00 ∷ 0x80 ∷ 0x00 ∷ 0x90 ∷ 0xF5 ∷ 0x60 ∷ 0x0A ∷ 0xAE ∷ low ∷ 0x00 ∷ 0x00 ∷ 0x00 ∷ 0x00 ∷ 0x00
     ∷ c₀ ∷ c₁ ∷ c₂ ∷ c₃ ∷ replicate 163 0xFF)
     9_000_000
 
-abbrev z : Board
-z = record { profile = 0; n = 2016; site = 7; tad = 0 }
+abbrev short : Arrival
+short = p3_notice 0x60 0xDA 0x57 0x73 0x39
 
--- profile 1: three packets before the mark, which comes 90 units after its STS; MD is 100 or 110, TAD 20. One of the packets never comes
-abbrev needs : ℕ → Arrival
-needs md = numbers clean 1 (record { pointer = 3; sts = record { 0 = sts 0 }; md = record { 0 = md }; od = pos 0; index = 255 })
+abbrev mended_p3 : Arrival
+mended_p3 = p3_notice 0x61 0xC1 0x7F 0x7E 0x41
 
-abbrev between : List Call
-between = plain 621 2 ∷ gap 1 ∷ plain 623 4 ∷ []
+abbrev p3_board : Board
+p3_board = record { profile = 0; n = 2016; site = 7; tad = 0 }
 
-pub record Mends (s : Slave) (profile x : ℕ) (a a' : Arrival) (behind : List Call) (b : Arrival) : Type 0 where
-  pub lengthened : Lengthened s x a a' behind
+-- profile 1, the adapter Z: notices on the marks themselves, with an MD of 100 or 110. The first mark's is on label 0; one packet is lost and told, and the
+-- next mark comes 90 units after its STS, to a TAD of 20, with a notice of its own
+abbrev behind : List Call
+behind = plain 625 2 ∷ gap 621 ∷ plain 1247 4 ∷ []
+
+pub record Mends (s : Slave) (profile x : ℕ) (a a' : Arrival) (behind : List Call) (b b' : Arrival) : Type 0 where
+  pub lengthened : Lengthened s x a a' behind b b'
   pub was_late : mark_behind s a behind b ≡ due profile (late x)
 
 pub mended_examples :
-    Mends (begun z) 0 1 (p3 0x60 0xDA 0x57 0x73 0x39) (p3 0x61 0xC1 0x7F 0x7E 0x41) [] (quiet 200_001)
-    × Mends (begun g) 1 10 (needs 100) (needs 110) between (quiet 32)
+    Mends (begun p3_board) 0 1 short mended_p3 [] (quiet 200_001) (quiet 200_001)
+    × Mends (begun g) 1 10 (tells_md 100 623 624 1 (pos 0)) (tells_md 110 623 624 1 (pos 0)) behind (tells_md 100 623 1248 532 (pos 0)) (tells_md 110 623 1248 532 (pos 0))
 unfolding judged hear leave slave_after start_of packet_of numbers_of gap_of sound settings_kept admits is_mega_frame at_some_rate second parts_fit hunting_fits is_unset is_uncounted is_zero locked_fits frequency_fits index_fits waiting_fits is_nothing delay_kept delay_fits delay_fits_a110 within arrival_refusal carries taken_refusal limited judge_mip judge_arrived judge_given step_of counted passed unheard took mark_at mark_taken notice_taken release_at due_of wrap modulation link_delay gapped section_refusal settings_of entries_in functions_of functions_in length_fits set_by addressed register register_from bits_in bit_in
 mended_examples = (
   record {
-    lengthened = record {
-      is_sound = refl;
-      notice = record { pointer = 0; index = 255; settings = record { od = pos 0; frequency = pos 0; power = 0 }; sts = 9_500_000; md = 700_000 };
-      taken = refl;
-      longer_taken = refl;
-      none_behind = tt;
-    };
+    lengthened = record { is_sound = refl; taken = refl; longer_taken = refl; none_behind = tt; same_tick = refl; alike = refl };
     was_late = refl;
   },
   record {
-    lengthened = record {
-      is_sound = refl;
-      notice = record { pointer = 3; index = 255; settings = record { od = pos 0; frequency = pos 0; power = 0 }; sts = sts 0; md = 100 };
-      taken = refl;
-      longer_taken = refl;
-      none_behind = (refl, (tt, (refl, tt)));
-    };
+    lengthened = record { is_sound = refl; taken = refl; longer_taken = refl; none_behind = (refl, (tt, (refl, tt))); same_tick = refl; alike = refl };
     was_late = refl;
   },
 )
 
 -- so both are released with a wait of 0
 pub mended_waits :
-    Held 0 0 (mark_behind (begun z) (p3 0x61 0xC1 0x7F 0x7E 0x41) [] (quiet 200_001))
-    × Held 1 0 (mark_behind (begun g) (needs 110) between (quiet 32))
+    Held 0 0 (mark_behind (begun p3_board) mended_p3 [] (quiet 200_001))
+    × Held 1 0 (mark_behind (begun g) (tells_md 110 623 624 1 (pos 0)) behind (tells_md 110 623 1248 532 (pos 0)))
 mended_waits =
     let m = mended_examples in
-    ((mended 1 _ _ _ _ m.0.lengthened _ _ _ m.0.was_late).by_it refl, (mended 10 _ _ _ _ m.1.lengthened _ _ _ m.1.was_late).by_it refl)
+    ((mended 1 _ _ _ _ _ _ m.0.lengthened _ _ m.0.was_late).by_it refl, (mended 10 _ _ _ _ _ _ m.1.lengthened _ _ m.1.was_late).by_it refl)

@@ -1,26 +1,26 @@
 -- A late mark's lateness is what its notice's MD lacked (document 02, Paper 3).
-use mathlib.Core.Path.{◌≡◌, refl, sym, ap, ◌∙◌, subst}
+use mathlib.Core.Path.{◌≡◌, refl, sym, ap, ap₂, ◌∙◌, subst}
 use mathlib.Core.Bool.{true, false}
 use mathlib.Core.List.{List, [], ◌∷◌}
-use Prim.Native.Nat.{ℕ, ◌-◌, ◌≤◌}
+use Prim.Native.Nat.{ℕ, ◌+◌, ◌-◌, ◌≤◌}
 use native.Mathlib.Omega.{arith}
-use Rattle.times.specs.Release.{late}
+use Rattle.times.specs.Release.{Due, late}
 use Rattle.times.proofs.Laws.{longer_late, longer_released, longer_waits}
 use Rattle.state.specs.Sound.{sound}
 use Rattle.state.specs.declared.Slave.{Slave}
 use Rattle.judging.specs.Judgement.{Judgement, Refuse, Counts, Takes}
 use Rattle.slave.specs.Answer.{due, mark_in, Report, Result}
 use Rattle.slave.specs.Step.{took, step_of}
-use Rattle.slave.proofs.Due.{OwnDue, packet_due, numbers_due}
-use Rattle.slave.proofs.Longer.{longer_in, counted_longer, gapped_longer, due_longer, step_longer}
-use Rattle.run.specs.Book.{Arrival, packet, numbers, Call, at, gap}
+use Rattle.slave.proofs.Due.{unmarked_apart, OwnDue, packet_due, numbers_due}
+use Rattle.slave.proofs.Longer.{longer_in, counted_longer, gapped_longer, due_longer, counted_mark, taken_mark}
+use Rattle.run.specs.Book.{Arrival, packet, numbers, tick_of, Call, at, gap}
 use Rattle.run.specs.Run.{hear, leave, slave_after}
-use Rattle.run.specs.Late.{judged_by, takes, TakesNone, NoneTaken, Lengthened, mark_behind, Held, Mended}
-use Rattle.run.proofs.Steps.{tick_of, moved}
+use Rattle.run.specs.Late.{judged_by, takes, longer, TakesNone, NoneTaken, Lengthened, mark_behind, Held, Mended}
+use Rattle.run.proofs.Steps.{moved}
 use Rattle.run.proofs.Run.{heard, left_by, leave_sound}
 
 module _ (y : ℕ) where
-  -- ---- a call that takes no notice leaves two such slaves so, and a list of them
+  -- ---- a slave, and the same with a longer MD: a call that takes no notice leaves them so, and a list of them
   step_left : (s : Slave) (tick : ℕ) (j : Judgement) → takes j ≡ false → (step_of (longer_in y s) j tick).slave ≡ longer_in y (step_of s j tick).slave
   unfolding step_of
   step_left s tick (Refuse k) e = refl
@@ -34,7 +34,7 @@ module _ (y : ℕ) where
   call_left : (s : Slave) → sound s ≡ true → sound (longer_in y s) ≡ true → (c : Call) → TakesNone s c → leave (longer_in y s) c ≡ longer_in y (leave s c)
   call_left s ok ok' c e = left_by (longer_in y s) ok' c ∙ moved_left s c e ∙ ap (longer_in y) (sym (left_by s ok c))
 
-  -- both are sound afterwards
+  -- s' is s with the longer MD, and both are sound
   record Left (s s' : Slave) : Type 0 where
     so : s' ≡ longer_in y s
     one_sound : sound s ≡ true
@@ -52,24 +52,42 @@ module _ (y : ℕ) where
       })
       cs e.1
 
-  -- ---- the notice itself
-  module _ (s : Slave) (a a' : Arrival) (behind : List Call) (l : Lengthened s y a a' behind) where
+  -- ---- a notice that is taken leaves them so
+  took_longer : (s : Slave) (j : Judgement) (t t' : ℕ) → takes j ≡ true → (step_of s (longer y j) t').slave ≡ longer_in y (step_of s j t).slave
+  unfolding step_of took
+  took_longer s (Refuse k) t t' e = absurd cc
+  took_longer s (Counts k) t t' e = absurd cc
+  took_longer s (Takes x) t t' e = refl
+
+  -- ---- and a mark that is due in the one is due in the other by the longer MD
+  step_longer :
+      (s : Slave) (tick profile : ℕ) (d : Due) → OwnDue s tick profile d → (j : Judgement) → mark_in (step_of s j tick).reply ≡ due profile d
+      → mark_in (step_of (longer_in y s) (longer y j) tick).reply ≡ due profile (due_longer y s tick)
+  unfolding step_of
+  step_longer s tick profile d o (Refuse k) e = absurd (unmarked_apart profile d e)
+  step_longer s tick profile d o (Counts k) e = counted_mark y s tick profile d o k
+  step_longer s tick profile d o (Takes x) e = taken_mark y s tick profile d o x (x.md + y) e
+
+  -- ---- two feeds
+  module _ (s : Slave) (a a' : Arrival) (behind : List Call) (b b' : Arrival) (l : Lengthened s y a a' behind b b') where
     taken_left : (hear s a').slave ≡ longer_in y (hear s a).slave
-    unfolding step_of took
-    taken_left = rw (heard s l.is_sound a', heard s l.is_sound a, l.taken, l.longer_taken) refl
+    taken_left =
+        ap (λ (r : Result Report). r.slave) (heard s l.is_sound a')
+        ∙ ap (λ (j : Judgement). (step_of s j (tick_of a')).slave) l.longer_taken
+        ∙ took_longer s (judged_by s a) (tick_of a) (tick_of a') l.taken
+        ∙ ap (λ (r : Result Report). longer_in y r.slave) (sym (heard s l.is_sound a))
 
     at_once : Left (hear s a).slave (hear s a').slave
     unfolding leave
     at_once = record { so = taken_left; one_sound = leave_sound s l.is_sound (at 0 a); other_sound = leave_sound s l.is_sound (at 0 a') }
 
-    before_mark : Left (slave_after (hear s a).slave behind) (slave_after (hear s a').slave behind)
-    before_mark = calls_left (hear s a).slave (hear s a').slave at_once behind l.none_behind
+    abbrev one : Slave
+    one = slave_after (hear s a).slave behind
 
-    -- ---- the mark
-    module _ (b : Arrival) (profile x : ℕ) (answer : mark_behind s a behind b ≡ due profile (late x)) where
-      abbrev one : Slave
-      one = slave_after (hear s a).slave behind
+    w : Left one (slave_after (hear s a').slave behind)
+    w = calls_left (hear s a).slave (hear s a').slave at_once behind l.none_behind
 
+    module _ (profile x : ℕ) (answer : mark_behind s a behind b ≡ due profile (late x)) where
       own : (c : Arrival) → mark_in (hear one c).reply ≡ due profile (late x) → OwnDue one (tick_of c) profile (late x)
       unfolding hear
       own (packet form p tick) e = (packet_due one tick profile (late x) p e).own
@@ -78,15 +96,15 @@ module _ (y : ℕ) where
       o : OwnDue one (tick_of b) profile (late x)
       o = own b answer
 
-      other_mark : mark_behind s a' behind b ≡ due profile (due_longer y one (tick_of b))
+      other_mark : mark_behind s a' behind b' ≡ due profile (due_longer y one (tick_of b))
       other_mark =
-          let w = before_mark in
-          ap (λ (x : Slave). mark_in (hear x b).reply) w.so
-          ∙ ap (λ (r : Result Report). mark_in r.reply) (heard (longer_in y one) (subst (λ (x : Slave). sound x ≡ true) w.so w.other_sound) b)
-          ∙ step_longer y one (tick_of b) profile (late x) o (judged_by one b)
+          ap (λ (x : Slave). mark_in (hear x b').reply) w.so
+          ∙ ap (λ (r : Result Report). mark_in r.reply) (heard (longer_in y one) (subst (λ (x : Slave). sound x ≡ true) w.so w.other_sound) b')
+          ∙ ap₂ (λ (j : Judgement) (t : ℕ). mark_in (step_of (longer_in y one) j t).reply) l.alike l.same_tick
+          ∙ step_longer one (tick_of b) profile (late x) o (judged_by one b)
           (sym (ap (λ (r : Result Report). mark_in r.reply) (heard one w.one_sound b)) ∙ answer)
 
-      held : x ≤ y → Held profile (y - x) (mark_behind s a' behind b)
+      held : x ≤ y → Held profile (y - x) (mark_behind s a' behind b')
       held h =
           record {
             times = _;
@@ -94,10 +112,10 @@ module _ (y : ℕ) where
             waits = longer_waits _ _ _ _ _ _ x o.due_is y h;
           }
 
-      pub mended : Mended profile x y (mark_behind s a' behind b)
+      pub mended : Mended profile x y (mark_behind s a' behind b')
       mended =
           record {
-            by_it = λ e. subst (λ (w : ℕ). Held profile w (mark_behind s a' behind b)) (omega arith) (held (omega arith));
+            by_it = λ e. subst (λ (w : ℕ). Held profile w (mark_behind s a' behind b')) (omega arith) (held (omega arith));
             by_less = λ h. other_mark ∙ ap (due profile) (longer_late _ _ _ _ _ _ x o.due_is y h);
             by_more = λ h. held (omega arith);
           }

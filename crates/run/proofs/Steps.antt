@@ -15,16 +15,12 @@ use Rattle.slave.specs.Step.{counted, passed, unheard, took, step_of}
 use Rattle.slave.specs.Gap.{gapped}
 use Rattle.slave.proofs.Sound.{step_board, gap_board}
 use Rattle.run.specs.Adapter.{Adapter}
-use Rattle.run.specs.Book.{Arrival, packet, numbers, Call, at, gap, judged, Book, closed, opened, od_of, verdict_at, count_place, tell_gap, enter, enter_call, book_after}
+use Rattle.run.specs.Book.{Arrival, packet, numbers, tick_of, Call, at, gap, judged, Book, closed, opened, od_of, verdict_at, count_place, tell_gap, enter, enter_call, book_after}
 use Rattle.run.specs.Run.{GenuineCall, AllGenuine}
 use Rattle.run.specs.Claim.{RightReply}
 use Rattle.run.proofs.Follow.{Follows, step_follows, gap_follows}
 
 -- ---- what a call does to a slave, with nothing asked of the slave
-
-abbrev pub tick_of : Arrival → ℕ
-tick_of (packet form p tick) = tick
-tick_of (numbers p tick x) = tick
 
 abbrev pub stepped : Slave → Arrival → Result Report
 stepped s a = step_of s (judged s.board s.settings a) (tick_of a)

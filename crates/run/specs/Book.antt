@@ -19,6 +19,10 @@ pub data Arrival : Type 0 where
   packet : (form : Form) (bytes : List ℕ) (tick : ℕ) → Arrival
   numbers : (bytes : List ℕ) (tick : ℕ) → Numbers → Arrival
 
+abbrev pub tick_of : Arrival → ℕ
+tick_of (packet form p tick) = tick
+tick_of (numbers p tick x) = tick
+
 pub data Call : Type 0 where
   at : (place : ℕ) → Arrival → Call
   gap : ℕ → Call

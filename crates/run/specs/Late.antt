@@ -4,14 +4,9 @@ use Rattle.times.specs.Release.{Times, late, released}
 use Rattle.state.specs.Sound.{sound}
 use Rattle.state.specs.declared.Slave.{Slave}
 use Rattle.judging.specs.Judgement.{Judgement, Refuse, Counts, Takes}
-use Rattle.judging.specs.declared.Taken.{Taken}
 use Rattle.slave.specs.Answer.{Mark, due, mark_in}
-use Rattle.run.specs.Book.{Arrival, Call, at, gap, judged}
+use Rattle.run.specs.Book.{Arrival, tick_of, Call, at, gap, judged}
 use Rattle.run.specs.Run.{hear, leave, slave_after}
-
--- a notice with MD longer by y
-abbrev pub longer : ℕ → Taken → Taken
-longer y x = record x { md = x.md + y }
 
 -- how a slave judges what comes
 abbrev pub judged_by : Slave → Arrival → Judgement
@@ -22,6 +17,12 @@ takes (Refuse k) = false
 takes (Counts k) = false
 takes (Takes x) = true
 
+-- the same judgement of a notice with MD longer by y; what carries none stays
+abbrev pub longer : ℕ → Judgement → Judgement
+longer y (Refuse k) = Refuse k
+longer y (Counts k) = Counts k
+longer y (Takes x) = Takes (record x { md = x.md + y })
+
 -- a call takes no notice, and none of a list does
 abbrev pub TakesNone : Slave → Call → Type 0
 TakesNone s (at t a) = takes (judged_by s a) ≡ false
@@ -31,13 +32,15 @@ abbrev pub NoneTaken : Slave → List Call → Type 0
 NoneTaken s [] = Unit {0}
 NoneTaken s (c ∷ cs) = TakesNone s c × NoneTaken (leave s c) cs
 
--- a sound slave takes the notice that a carries, or the same with MD longer by y, which a' carries: 11 and 13 allow both. The calls behind it take none
-pub record Lengthened (s : Slave) (y : ℕ) (a a' : Arrival) (behind : List Call) : Type 0 where
+-- two feeds up to a mark. A sound slave takes the notice that a carries, or the same with MD longer by y, which a' carries: 11 and 13 allow both. The calls
+-- behind it take none. Then b comes, or at the same tick b', which is judged alike, but for the longer MD of a notice of its own
+pub record Lengthened (s : Slave) (y : ℕ) (a a' : Arrival) (behind : List Call) (b b' : Arrival) : Type 0 where
   pub is_sound : sound s ≡ true
-  pub notice : Taken
-  pub taken : judged_by s a ≡ Takes notice
-  pub longer_taken : judged_by s a' ≡ Takes (longer y notice)
+  pub taken : takes (judged_by s a) ≡ true
+  pub longer_taken : judged_by s a' ≡ longer y (judged_by s a)
   pub none_behind : NoneTaken (hear s a).slave behind
+  pub same_tick : tick_of b' ≡ tick_of b
+  pub alike : judged_by (slave_after (hear s a).slave behind) b' ≡ longer y (judged_by (slave_after (hear s a).slave behind) b)
 
 -- the mark that comes with b behind the notice and these calls
 abbrev pub mark_behind : Slave → Arrival → List Call → Arrival → Mark
@@ -49,7 +52,8 @@ pub record Held (profile wait : ℕ) (m : Mark) : Type 0 where
   pub mark : m ≡ due profile (released times)
   pub waits : times.wait ≡ pos wait
 
--- what becomes of a mark that was late by x, if its notice has an MD longer by y: released at once if y is x, late by the rest if y is less
+-- a mark that is late by x, if its notice has an MD longer by y: released with wait 0 if y is x, late by the rest if y is less, and held for what is over
+-- if it is more
 pub record Mended (profile x y : ℕ) (m : Mark) : Type 0 where
   pub by_it : y ≡ x → Held profile 0 m
   pub by_less : y < x → m ≡ due profile (late (x - y))

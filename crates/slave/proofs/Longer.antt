@@ -1,5 +1,4 @@
--- Two slaves that are alike but for the notice that waits, whose MD is longer by y in the one: every step leaves them so, and where the one finds its
--- mark late the other reckons with the longer MD.
+-- A slave, and the same with the MD of its waiting notice longer by y: a step that takes no notice leaves them so, and so does a gap.
 use mathlib.Core.Path.{◌≡◌, refl, ap, ◌∙◌}
 use mathlib.Core.Bool.{cond}
 use Prim.Native.Nat.{ℕ, ◌+◌}
@@ -11,7 +10,8 @@ use Rattle.times.specs.Release.{Due, due_of}
 use Rattle.state.specs.Profile.{second}
 use Rattle.state.specs.declared.Waiting.{Waiting}
 use Rattle.state.specs.declared.Slave.{Slave}
-use Rattle.judging.specs.Judgement.{Judgement, Refuse, Counts, Takes}
+use Rattle.judging.specs.Judgement.{Counts, Takes}
+use Rattle.judging.specs.declared.Taken.{Taken}
 use Rattle.slave.specs.Answer.{due, mark_in, Report, Result}
 use Rattle.slave.specs.Step.{release_at, mark_at, mark_taken, passed, unheard, counted, took, step_of}
 use Rattle.slave.specs.Gap.{gapped}
@@ -27,7 +27,6 @@ module _ (y : ℕ) (s : Slave) where
   abbrev Longer : Slave → Slave → Type 0
   Longer x x' = x' ≡ longer_in y x
 
-  -- a step that takes no notice
   pub counted_longer : (k tick : ℕ) → Longer (step_of s (Counts k) tick).slave (step_of (longer_in y s) (Counts k) tick).slave
   unfolding step_of counted passed unheard
   counted_longer k tick = grind (arith, nat_tests)
@@ -36,7 +35,7 @@ module _ (y : ℕ) (s : Slave) where
   unfolding gapped
   gapped_longer k = grind (arith, nat_tests)
 
-  -- the mark, where its own notice makes it due
+  -- where the one's mark is due, so is the other's, by the longer MD
   abbrev pub due_longer : ℕ → Due
   due_longer tick = due_of (second s.board.profile) s.waiting.sts (s.waiting.md + y) s.settings.od s.board.tad tick
 
@@ -45,12 +44,16 @@ module _ (y : ℕ) (s : Slave) where
     unfolding mark_at release_at
     at_longer = rw (o.locked, o.label, o.pending, o.unit)
 
-    pub step_longer : (j : Judgement) → mark_in (step_of s j tick).reply ≡ due profile d → mark_in (step_of (longer_in y s) j tick).reply ≡ due profile (due_longer tick)
-    unfolding step_of counted passed took mark_taken
-    step_longer (Refuse k) e = absurd (unmarked_apart profile d e)
-    step_longer (Counts k) e =
-        ap (λ (r : Result Report). mark_in r.reply) (yes (eqb s.count.phase 2) _ _ (rw o.locked refl)) ∙ at_longer
-    step_longer (Takes x) e =
+    pub counted_mark : (k : ℕ) → mark_in (step_of (longer_in y s) (Counts k) tick).reply ≡ due profile (due_longer tick)
+    unfolding step_of counted passed
+    counted_mark k = ap (λ (r : Result Report). mark_in r.reply) (yes (eqb s.count.phase 2) _ _ (rw o.locked refl)) ∙ at_longer
+
+    -- also where a notice is taken with the mark, whatever its MD
+    pub taken_mark :
+        (x : Taken) (md : ℕ) → mark_in (step_of s (Takes x) tick).reply ≡ due profile d
+        → mark_in (step_of (longer_in y s) (Takes (record x { md = md })) tick).reply ≡ due profile (due_longer tick)
+    unfolding step_of took mark_taken
+    taken_mark x md e =
         let u = unmarked_apart profile d in
         let v = untimed_apart profile d in
         let l = at_longer in

@@ -85,8 +85,8 @@ notice_of (notice.Ignored r) = ignored (refusal_number r)
 abbrev pub mark_of : MarkPart'.MarkPart → Mark
 mark_of mark.Unmarked = unmarked
 mark_of mark.Untimed = untimed
-mark_of (mark.Dvb t) = due 0 (due_in steps t)
-mark_of (mark.A110 t) = due 1 (due_in periods t)
+mark_of (mark.Dvb d) = due 0 (due_in steps d)
+mark_of (mark.A110 d) = due 1 (due_in periods d)
 
 abbrev pub report_of : Counted'.Counted → Report
 report_of c = record { label = option_of c.label; notice = notice_of c.notice; turn = c.turn; mark = mark_of c.mark; place = option_of c.place }

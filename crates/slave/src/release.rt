@@ -1,5 +1,5 @@
-// The times of a mark whose notice waits, or how late it is (document 01, "Release"; document 02, Papers 2 and 3). The limits are known to hold: the slave is
-// sound, and the arrival tick is one of its second.
+// The times of a mark whose notice waits, or how late it is (document 01, "Release"; document 02, Papers 2 and 3). The limits are known to hold: the
+// slave is sound, and the arrival tick is one of its second.
 ghost use Rattle.std.specs.Prelude.{◌≡◌, true, ◌+◌, ◌<◌, ◌^◌};
 ghost use Rattle.times.specs.Answer.{number, times_in, due_in};
 ghost use Rattle.times.specs.Release.{wrap, reference, emission, modulation, link_delay, wait, negative, lateness, delay_fits, times_of, due_of};

@@ -7,6 +7,10 @@ use Rattle.slave.specs.Answer.{Notice, absent, taken, slip, ignored, Mark, unmar
 use Rattle.text.specs.Decimal.{decimal}
 use Rattle.text.specs.Words.{space, newline, dash, site_word, cadence_word, refused_word, end_word, taken_word, slip_word, untimed_word, late_word}
 
+-- a number behind its word
+abbrev pub worded : List ℕ → ℕ → List ℕ
+worded word k = word ++ decimal k
+
 -- a record's columns: its label, its notice, and its mark with the emission time, or with how late it is (document 02, Paper 3)
 abbrev pub label_text : Option ℕ → List ℕ
 label_text none = dash
@@ -21,15 +25,15 @@ notice_text (ignored k) = decimal k
 abbrev pub mark_text : Mark → List ℕ
 mark_text unmarked = dash
 mark_text untimed = untimed_word
-mark_text (due profile (late x)) = late_word ++ decimal x
+mark_text (due profile (late x)) = worded late_word x
 mark_text (due profile (released t)) = decimal t.emission
 
 abbrev pub report_text : Report → List ℕ
 report_text r = label_text r.label ++ (space ∷ []) ++ notice_text r.notice ++ (space ∷ []) ++ mark_text r.mark ++ newline ∷ []
 
--- a word and its number at the end of a line
+-- the same at the end of a line
 abbrev pub numbered : List ℕ → ℕ → List ℕ
-numbered word k = word ++ decimal k ++ newline ∷ []
+numbered word k = worded word k ++ newline ∷ []
 
 -- a refusal, which is also all that bad or short settings print
 abbrev pub refusal_text : ℕ → List ℕ
@@ -44,7 +48,7 @@ unfoldable pub line_of : ℕ → Reply Report → List ℕ
 line_of number r = decimal number ++ (space ∷ []) ++ reply_text r
 
 unfoldable pub site_line : ℕ → ℕ → List ℕ
-site_line site n = site_word ++ decimal site ++ numbered cadence_word n
+site_line site n = worded site_word site ++ numbered cadence_word n
 
 unfoldable pub end_line : ℕ → List ℕ
 end_line count = numbered end_word count

@@ -3,21 +3,25 @@ use Rattle.std.specs.Prelude.{ℕ, ◌+◌, List, length}
 use Rattle.text.specs.Decimal.{most_digits}
 use Rattle.text.specs.Words.{site_word, cadence_word, refused_word, end_word, late_word}
 
+-- a number behind its word
+abbrev pub worded_room : List ℕ → ℕ
+worded_room word = length word + most_digits
+
 -- a column: no word is longer than the longest number
 abbrev pub column_room : ℕ
 column_room = most_digits
 
--- the mark's column: a late mark has its word and a number
+-- the mark's column: the longest is how late a mark is
 abbrev pub mark_room : ℕ
-mark_room = length late_word + most_digits
+mark_room = worded_room late_word
 
 -- the three columns, a byte behind each
 abbrev pub report_room : ℕ
 report_room = column_room + 1 + column_room + 1 + mark_room + 1
 
--- a word and its number at the end of a line
+-- a number behind its word at the end of a line
 abbrev pub numbered_room : List ℕ → ℕ
-numbered_room word = length word + most_digits + 1
+numbered_room word = worded_room word + 1
 
 abbrev pub refusal_room : ℕ
 refusal_room = numbered_room refused_word
@@ -27,7 +31,7 @@ abbrev pub line_room : ℕ
 line_room = most_digits + 1 + report_room
 
 abbrev pub site_room : ℕ
-site_room = length site_word + most_digits + numbered_room cadence_word
+site_room = worded_room site_word + numbered_room cadence_word
 
 abbrev pub end_room : ℕ
 end_room = numbered_room end_word

@@ -2,12 +2,12 @@
 // Not by `Display`: nothing that `write!` promises says that it answers `Ok`, so a line with room would not be known to be put (tried).
 #![tactic(auto)]
 
-ghost use Rattle.std.specs.Prelude.{◌≡◌, [], ◌∷◌, ◌++◌, ◌+◌, ◌-◌, ◌≤◌, length};
+ghost use Rattle.std.specs.Prelude.{◌≡◌, [], ◌∷◌, ◌+◌, ◌-◌, ◌≤◌, length};
 ghost use Rattle.times.specs.Answer.{due_in};
 ghost use Rattle.slave.specs.Answer.{due, option_of, notice_of, mark_of, report_of, answer_of};
 ghost use Rattle.text.specs.Decimal.{decimal, most_digits};
-ghost use Rattle.text.specs.Line.{label_text, notice_text, mark_text, report_text, numbered, refusal_text, line_of, site_line, end_line};
-ghost use Rattle.text.specs.Rooms.{column_room, mark_room, report_room, numbered_room, refusal_room, line_room, site_room, end_room};
+ghost use Rattle.text.specs.Line.{worded, label_text, notice_text, mark_text, report_text, numbered, refusal_text, line_of, site_line, end_line};
+ghost use Rattle.text.specs.Rooms.{worded_room, column_room, mark_room, report_room, numbered_room, refusal_room, line_room, site_room, end_room};
 ghost use Rattle.text.specs.Puts.{Puts, Placed};
 
 use slave::{Counted, MarkPart, NoticePart};
@@ -151,9 +151,9 @@ impl Page<'_> {
 
     // A number behind its word.
     fn worded(&mut self, word: &[u8], n: u64)
-        requires { self.old.at + (length word.now + most_digits) ≤ length self.old.out.now }
+        requires { self.old.at + worded_room word.now ≤ length self.old.out.now }
         ensures same { self.new.out.ghost_name ≡ self.old.out.ghost_name }
-        ensures puts { Puts (length word.now + most_digits) self.old.out.now self.old.at (word.now ++ decimal n) self.new.out.now self.new.at }
+        ensures puts { Puts (worded_room word.now) self.old.out.now self.old.at (worded word.now n) self.new.out.now self.new.at }
     {
         self.word(word);
         self.decimal(n);

@@ -99,7 +99,7 @@ module _ (u sts md : ℕ) (od : ℤ) (fits : delay_fits u md od ≡ true) where
         ends = sym (ap (λ (z : ℤ). residue u (pos arrival +ℤ z)) whole) ∙ wait_ends tad arrival h g;
       }
 
-  -- ---- the least wait: MD + OD is 0, TAD a second less one, and the arrival one before STS
+  -- ---- no wait is below −2 × (u − 1): MD + OD is not negative, and TAD and the link delay are at most u − 1 each
   pub wait_least : (tad arrival : ℕ) → tad < u → pos 0 ≤ℤ (wait_of u sts md od tad arrival +ℤ pos (2 * (u - 1)))
   wait_least tad arrival h = omega (arith, ints, link_less u arrival sts (omega arith), delay_whole u md od fits)
 
@@ -141,10 +141,11 @@ module _ (u sts md : ℕ) (od : ℤ) (tad arrival x : ℕ) (answer : due_of u st
   pub late_least : 1 ≤ x
   late_least = omega (arith, lateness_least w missing.too_late, missing.by)
 
+  -- and within the limits at most 2 × (u − 1)
   pub late_most : Kept u sts md od tad arrival → x ≤ 2 * (u - 1)
   late_most k = omega (arith, ints, wait_least u sts md od k.delay_in_second tad arrival k.tad_less, late_wait)
 
-  -- what a longer MD makes of it at the same arrival: shorter by so much, and from x on it is released
+  -- with MD longer by y it is late by y less at the same arrival, and released from y = x on
   module _ (y : ℕ) where
     longer_wait : wait_of u sts (md + y) od tad arrival ≡ pos y -ℤ pos x
     longer_wait = omega (arith, ints, late_wait, wait_longer md y od tad (link_delay u arrival sts))

@@ -32,7 +32,7 @@ wait md od tad link = pos md +ℤ od -ℤ pos tad -ℤ pos link
 abbrev pub negative : ℤ → Bool
 negative w = lt_z w (pos 0)
 
--- by so much: minus the wait (Paper 3)
+-- by so much: minus the wait, 0 where that would be negative (Paper 3)
 abbrev pub lateness : ℤ → ℕ
 lateness w = plus 0 (pos 0 -ℤ w)
 
