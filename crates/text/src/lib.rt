@@ -30,9 +30,7 @@ const MOST_DIGITS: usize = 20;
 
 const COLUMN_ROOM: usize = MOST_DIGITS;
 
-const MARK_ROOM: usize = LATE_WORD.len() + MOST_DIGITS;
-
-const REPORT_ROOM: usize = COLUMN_ROOM + 1 + COLUMN_ROOM + 1 + MARK_ROOM + 1;
+const REPORT_ROOM: usize = COLUMN_ROOM + 1 + COLUMN_ROOM + 1 + LATE_WORD.len() + MOST_DIGITS + 1;
 
 // Behind a word that ends a line: its number, and the line's end.
 const NUMBER_ROOM: usize = MOST_DIGITS + 1;
