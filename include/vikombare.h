@@ -200,13 +200,11 @@ typedef struct {
     uint8_t kind;   /* VIKOMBARE_MARK_NONE, ... */
     uint8_t number; /* VIKOMBARE_REFUSED_LATE where it is late, else 0 */
     union {
-        vikombare_steps dvb_late;    /* where kind is VIKOMBARE_MARK_DVB_LATE: 1 to twice a second - 2 */
-        vikombare_periods a110_late; /* where kind is VIKOMBARE_MARK_A110_LATE: 1 to twice a second - 2 */
-    };                               /* 0 for every other kind */
-    union {
-        vikombare_dvb_times dvb;   /* where kind is VIKOMBARE_MARK_DVB_RELEASED */
-        vikombare_a110_times a110; /* where kind is VIKOMBARE_MARK_A110_RELEASED */
-    };                             /* all 0 for every other kind */
+        vikombare_dvb_times dvb;     /* where kind is VIKOMBARE_MARK_DVB_RELEASED */
+        vikombare_a110_times a110;   /* where kind is VIKOMBARE_MARK_A110_RELEASED */
+        vikombare_steps dvb_late;    /* where kind is VIKOMBARE_MARK_DVB_LATE: 1 to twice a second - 2; all 0 behind it */
+        vikombare_periods a110_late; /* where kind is VIKOMBARE_MARK_A110_LATE: 1 to twice a second - 2; all 0 behind it */
+    };                               /* all 0 for every other kind */
 } vikombare_mark;
 
 /* What became of a notice. One that is taken waits for the next mark in place of any that waited; its settings for this site enter, and so do those for site
@@ -275,8 +273,8 @@ VIKOMBARE_HOLDS(sizeof(vikombare_slave) == 40 && offsetof(vikombare_slave, setti
 VIKOMBARE_HOLDS(offsetof(vikombare_slave, count) == 20 && offsetof(vikombare_slave, waiting) == 28);
 VIKOMBARE_HOLDS(sizeof(vikombare_dvb_times) == 24 && offsetof(vikombare_dvb_times, wait) == 16);
 VIKOMBARE_HOLDS(sizeof(vikombare_a110_times) == 24 && offsetof(vikombare_a110_times, wait) == 16);
-VIKOMBARE_HOLDS(sizeof(vikombare_mark) == 32 && offsetof(vikombare_mark, dvb_late) == 4 && offsetof(vikombare_mark, a110_late) == 4);
-VIKOMBARE_HOLDS(offsetof(vikombare_mark, dvb) == 8 && offsetof(vikombare_mark, a110) == 8);
+VIKOMBARE_HOLDS(sizeof(vikombare_mark) == 32 && offsetof(vikombare_mark, dvb) == 8 && offsetof(vikombare_mark, a110) == 8);
+VIKOMBARE_HOLDS(offsetof(vikombare_mark, dvb_late) == 8 && offsetof(vikombare_mark, a110_late) == 8);
 VIKOMBARE_HOLDS(sizeof(vikombare_reply) == 48 && offsetof(vikombare_reply, place) == 8 && offsetof(vikombare_reply, mark) == 16);
 VIKOMBARE_HOLDS(sizeof(vikombare_numbers_notice) == 16 && offsetof(vikombare_numbers_notice, od) == 12);
 VIKOMBARE_HOLDS(sizeof(vikombare_notice) == 20 && offsetof(vikombare_notice, sts) == 8 && offsetof(vikombare_notice, tps) == 16);

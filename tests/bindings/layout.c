@@ -50,10 +50,10 @@ int main(void)
     STRUCT(mark);
     FIELD(mark, kind);
     FIELD(mark, number);
-    FIELD(mark, dvb_late);
-    FIELD(mark, a110_late);
     FIELD(mark, dvb);
     FIELD(mark, a110);
+    FIELD(mark, dvb_late);
+    FIELD(mark, a110_late);
     STRUCT(reply);
     FIELD(reply, number);
     FIELD(reply, has_label);

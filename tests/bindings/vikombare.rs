@@ -26,7 +26,7 @@ c_struct! {
 }
 
 c_struct! {
-    /// A mark's times. In C they are a union of the two units, which have one layout.
+    /// A mark's times; of a late mark the first is how late it is. In C they are a union of both in the two units.
     Times { reference: u32, emission: u32, modulation: u32, wait: i64, }
 }
 
@@ -36,9 +36,7 @@ c_struct! {
         kind: u8,
         /// 14 where it is late, else 0.
         number: u8,
-        /// How late, else 0. In C it is a union of the two units.
-        lateness as dvb_late a110_late: u32,
-        times as dvb a110: Times,
+        times as dvb a110 dvb_late a110_late: Times,
     }
 }
 

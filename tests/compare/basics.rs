@@ -149,7 +149,7 @@ impl Comparison<Basics> {
             self.saw(whose, "wait", md + od - tad - (arrival - sts).rem_euclid(u));
         }
         if number == 14 {
-            self.saw(whose, "lateness", reply.mark.lateness);
+            self.saw(whose, "lateness", reply.mark.times.reference);
         }
         if number == 0 {
             self.saw(whose, "released, STS + MD", sts + md);

@@ -118,12 +118,12 @@ static void kinds(void)
     due = slave;
     reply = heard(&slave, null, 9900000);
     HOLD(VIKOMBARE_MARK_DVB_RELEASED, reply.mark.kind);
-    hold("the lateness of a mark in time", 0, reply.mark.dvb_late.steps);
     slave = due;
     reply = heard(&slave, null, 200001);
     HOLD(VIKOMBARE_MARK_DVB_LATE, reply.mark.kind);
     HOLD(VIKOMBARE_REFUSED_LATE, reply.mark.number);
     hold("P3's lateness", 1, reply.mark.dvb_late.steps);
+    hold("what is behind it", 0, reply.mark.dvb.emission.steps | reply.mark.dvb.modulation.steps | (reply.mark.dvb.wait != 0));
     HOLD(VIKOMBARE_NOTICE_SLIP, heard(&slave, mip, 5).notice);
     slave.waiting.pending = 0;
     slave.waiting.sts = slave.waiting.md = 0;
@@ -136,7 +136,6 @@ static void kinds(void)
     due = slave;
     reply = vikombare_packet(&slave, null, PACKET, vikombare_a110_tick(arrival));
     HOLD(VIKOMBARE_MARK_A110_RELEASED, reply.mark.kind);
-    hold("the lateness of a mark in time, profile 1", 0, reply.mark.a110_late.periods);
     slave = due;
     arrival.periods = 700001;
     reply = vikombare_packet(&slave, null, PACKET, vikombare_a110_tick(arrival));

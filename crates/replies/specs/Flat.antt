@@ -4,7 +4,7 @@ use Rattle.std.proofs.Math.Option.{Option, none, some}
 use Rattle.wire.specs.Reply.{Reply, refused, given}
 use Rattle.times.specs.Release.{Times, late, released}
 use Rattle.state.specs.declared.Slave.{Slave}
-use Rattle.slave.specs.Answer.{Notice, absent, taken, slip, ignored, Mark, unmarked, untimed, due, mark_number, mark_lateness, Report, Result}
+use Rattle.slave.specs.Answer.{Notice, absent, taken, slip, ignored, Mark, unmarked, untimed, due, mark_number, Report, Result}
 use Rattle.replies.specs.declared.MarkTimes.{MarkTimes}
 use Rattle.replies.specs.declared.Mark as CMark
 use Rattle.replies.specs.declared.PacketReply.{PacketReply}
@@ -43,14 +43,18 @@ no_times = record { reference = 0; emission = 0; modulation = 0; wait = pos 0 }
 abbrev pub flat_times : Times → MarkTimes
 flat_times t = record { reference = t.reference; emission = t.emission; modulation = t.modulation; wait = t.wait }
 
+-- in C they are a union: a late mark has its lateness where the first of the times stands, and nothing behind it
+abbrev pub late_by : ℕ → MarkTimes
+late_by x = record { reference = x; emission = 0; modulation = 0; wait = pos 0 }
+
 abbrev pub mark_times : Mark → MarkTimes
 mark_times unmarked = no_times
 mark_times untimed = no_times
-mark_times (due profile (late x)) = no_times
+mark_times (due profile (late x)) = late_by x
 mark_times (due profile (released t)) = flat_times t
 
 abbrev pub flat_mark : Mark → CMark.Mark
-flat_mark m = record { kind = mark_kind m; number = mark_number m; lateness = mark_lateness m; times = mark_times m }
+flat_mark m = record { kind = mark_kind m; number = mark_number m; times = mark_times m }
 
 abbrev pub flat_report : Report → PacketReply
 flat_report r =

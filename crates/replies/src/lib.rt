@@ -13,7 +13,7 @@ use state::Slave;
 use times::{Due, Times, Unit};
 use wire::Refusal;
 
-// What a mark is released with, in the unit of its profile.
+// What a mark is released with, in the unit of its profile; a late mark has its lateness in place of the first, and 0 behind it. In C all this is one union.
 #[repr(C)]
 #[derive(Clone, Copy, Default)]
 pub struct MarkTimes {
@@ -24,13 +24,12 @@ pub struct MarkTimes {
 }
 
 // A mark: 0 none, 1 untimed; late in profile 0 (2) or 1 (3), with its number and how late it is; released in profile 0 (4) or 1 (5), with its times. What
-// it has not is 0. In C the lateness and the times are unions with a member for each unit: steps of 100 ns in profile 0, bit periods in profile 1.
+// it has not is 0. The kind says the unit: steps of 100 ns in profile 0, bit periods in profile 1.
 #[repr(C)]
 #[derive(Clone, Copy, Default)]
 pub struct Mark {
     pub kind: u8,
     pub number: u8,
-    pub lateness: u32,
     pub times: MarkTimes,
 }
 
@@ -79,8 +78,10 @@ impl<T: Unit> From<Due<T>> for Mark {
             Due::Late(x) => Mark {
                 kind: T::PROFILE + 2,
                 number: Refusal::Late.number(),
-                lateness: x.count(),
-                ..Mark::default()
+                times: MarkTimes {
+                    reference: x.count(),
+                    ..MarkTimes::default()
+                },
             },
             Due::Released(t) => Mark {
                 kind: T::PROFILE + 4,

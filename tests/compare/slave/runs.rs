@@ -141,7 +141,7 @@ impl Comparison<Calls> {
             }
         }
         if mark == 2 {
-            self.saw(whose, "lateness", reply.mark.lateness);
+            self.saw(whose, "lateness", reply.mark.times.reference);
         }
         if mark == 3 {
             self.saw(whose, "reference", reply.mark.times.reference);
