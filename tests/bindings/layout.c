@@ -52,8 +52,6 @@ int main(void)
     FIELD(mark, number);
     FIELD(mark, dvb);
     FIELD(mark, a110);
-    FIELD(mark, dvb_late);
-    FIELD(mark, a110_late);
     STRUCT(reply);
     FIELD(reply, number);
     FIELD(reply, has_label);

@@ -36,7 +36,7 @@ c_struct! {
         kind: u8,
         /// 14 where it is late, else 0.
         number: u8,
-        times as dvb a110 dvb_late a110_late: Times,
+        times as dvb a110: Times,
     }
 }
 
