@@ -52,8 +52,8 @@ pub record Held (profile wait : ℕ) (m : Mark) : Type 0 where
   pub mark : m ≡ due profile (released times)
   pub waits : times.wait ≡ pos wait
 
--- a mark that is late by x, if its notice has an MD longer by y: released with wait 0 if y is x, late by the rest if y is less, and held for what is over
--- if it is more
+-- the mark in the feed with MD longer by y, where it is late by x in the other: released with wait 0 if y is x, late by the rest if y is less, and held
+-- for what is over if it is more
 pub record Mended (profile x y : ℕ) (m : Mark) : Type 0 where
   pub by_it : y ≡ x → Held profile 0 m
   pub by_less : y < x → m ≡ due profile (late (x - y))
