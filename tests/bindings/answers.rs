@@ -91,9 +91,7 @@ impl From<(Slave, Result<slave::Reply, u8>)> for Step {
         let mark = match mark {
             MarkPart::None => Mark::default(),
             MarkPart::Untimed => Mark { kind: 1, ..Mark::default() },
-            MarkPart::Late(lateness) => {
-                Mark { kind: 2 + slave.profile, number: 14, times: Times { reference: lateness, ..Times::default() } }
-            }
+            MarkPart::Late(lateness) => Mark { kind: 2 + slave.profile, number: 14, times: Times { reference: lateness, ..Times::default() } },
             MarkPart::Released(times) => Mark { kind: 4 + slave.profile, times: times.into(), ..Mark::default() },
         };
         let (has_label, has_place) = (label.is_some(), place.is_some());
