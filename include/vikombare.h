@@ -46,8 +46,7 @@ extern "C" {
 #endif
 
 /* The version of this interface. MAJOR rises where a program has to be changed or compiled anew, MINOR where it has not: something is added, or a call
- * gives another value. 2.1: a time that was a whole second is 0. 3.0: a late mark says how late it is, and its kind in which unit; the kinds of a
- * released mark are 4 and 5. */
+ * gives another value. 2.1: a time that was a whole second is 0. 3.0: a late mark says how late it is, and its kind in which unit. */
 #define VIKOMBARE_VERSION_MAJOR 3
 #define VIKOMBARE_VERSION_MINOR 0
 
@@ -78,7 +77,7 @@ enum {
     VIKOMBARE_REFUSED_POINTER = 12,           /* the pointer is not below n; the index is not 0 to 19 or 255 */
     VIKOMBARE_REFUSED_DELAY = 13,             /* MD + OD is not in 0 to a second - 1; in profile 1 also MD + OD + TAD not in 1 to a second - 1. OD is the one
                                                  in force once the notice is taken */
-    VIKOMBARE_REFUSED_LATE = 14,              /* a mark's own number, beside the notice's: see VIKOMBARE_MARK_DVB_LATE */
+    VIKOMBARE_REFUSED_LATE = 14,              /* a mark's own number, beside the notice's: see VIKOMBARE_MARK_DVB_LATE, _A110_LATE */
     VIKOMBARE_REFUSED_COLD = 15,              /* the settings are outside the limits; or the slave handed in is cold, or none that an accepted call gives */
     VIKOMBARE_REFUSED_BLOCK = 16,             /* the saved block's shape, check value, phase or ranges; a pending notice in it that 13 refuses */
     VIKOMBARE_REFUSED_BOARD = 17,             /* a sound block, but of another site, profile, n or TAD */
@@ -97,7 +96,7 @@ enum {
 #define VIKOMBARE_BLOCK_BYTES 38 /* of a saved block */
 #define VIKOMBARE_INDEX_UNKNOWN 255
 
-/* A time after the one-second pulse, or a delay. The two units are two types, so that one is not taken for the other. */
+/* A time after the one-second pulse, a delay, or how late a mark was. The two units are two types, so that one is not taken for the other. */
 typedef struct {
     uint32_t steps; /* of 100 ns, profile 0 */
 } vikombare_steps;
@@ -190,10 +189,10 @@ enum {
     VIKOMBARE_MARK_NONE = 0,          /* the packet is no mark, or the slave has no label */
     VIKOMBARE_MARK_UNTIMED = 1,       /* a mark without a notice, or one that a slip or the first notice led to: its time is not known */
     VIKOMBARE_MARK_DVB_LATE = 2,      /* a mark that arrived after its modulation time (14): it has passed, its notice is cleared. mark.dvb_late is by how
-                                         much: with a maximum delay (MD) longer by so much it would have had a wait of 0 */
-    VIKOMBARE_MARK_A110_LATE = 3,     /* the same in profile 1: mark.a110_late */
-    VIKOMBARE_MARK_DVB_RELEASED = 4,  /* mark.dvb has its times */
-    VIKOMBARE_MARK_A110_RELEASED = 5  /* mark.a110 has its times */
+                                         much: with a maximum delay (MD) longer by so much, where 11 and 13 allow it, it would have had a wait of 0 */
+    VIKOMBARE_MARK_DVB_RELEASED = 3,  /* mark.dvb has its times */
+    VIKOMBARE_MARK_A110_RELEASED = 4, /* mark.a110 has its times */
+    VIKOMBARE_MARK_A110_LATE = 5      /* as VIKOMBARE_MARK_DVB_LATE, in profile 1: mark.a110_late */
 };
 
 typedef struct {
@@ -202,8 +201,8 @@ typedef struct {
     union {
         vikombare_dvb_times dvb;     /* where kind is VIKOMBARE_MARK_DVB_RELEASED */
         vikombare_a110_times a110;   /* where kind is VIKOMBARE_MARK_A110_RELEASED */
-        vikombare_steps dvb_late;    /* where kind is VIKOMBARE_MARK_DVB_LATE: 1 to twice a second - 2; all 0 behind it */
-        vikombare_periods a110_late; /* where kind is VIKOMBARE_MARK_A110_LATE: 1 to twice a second - 2; all 0 behind it */
+        vikombare_steps dvb_late;    /* where kind is VIKOMBARE_MARK_DVB_LATE: 1 to 2 * (VIKOMBARE_DVB_SECOND - 1) */
+        vikombare_periods a110_late; /* where kind is VIKOMBARE_MARK_A110_LATE: 1 to 2 * (VIKOMBARE_A110_SECOND - 1) */
     };                               /* all 0 for every other kind */
 } vikombare_mark;
 

@@ -32,7 +32,7 @@ impl Mark {
     pub fn class(&self) -> u8 {
         match self.kind {
             0 | 1 => self.kind,
-            2 | 3 => 2,
+            2 | 5 => 2,
             _ => 3,
         }
     }
@@ -91,8 +91,8 @@ impl From<(Slave, Result<slave::Reply, u8>)> for Step {
         let mark = match mark {
             MarkPart::None => Mark::default(),
             MarkPart::Untimed => Mark { kind: 1, ..Mark::default() },
-            MarkPart::Late(lateness) => Mark { kind: 2 + slave.profile, number: 14, times: Times { reference: lateness, ..Times::default() } },
-            MarkPart::Released(times) => Mark { kind: 4 + slave.profile, times: times.into(), ..Mark::default() },
+            MarkPart::Late(lateness) => Mark { kind: 2 + 3 * slave.profile, number: 14, times: Times { reference: lateness, ..Times::default() } },
+            MarkPart::Released(times) => Mark { kind: 3 + slave.profile, times: times.into(), ..Mark::default() },
         };
         let (has_label, has_place) = (label.is_some(), place.is_some());
         let (label, place) = (label.unwrap_or(0), place.unwrap_or(0));

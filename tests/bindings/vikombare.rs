@@ -32,7 +32,7 @@ c_struct! {
 
 c_struct! {
     Mark {
-        /// 0 none, 1 untimed, 2 late in profile 0, 3 late in profile 1, 4 released in profile 0, 5 released in profile 1.
+        /// 0 none, 1 untimed, 2 late in profile 0, 3 released in profile 0, 4 released in profile 1, 5 late in profile 1.
         kind: u8,
         /// 14 where it is late, else 0.
         number: u8,

@@ -45,7 +45,7 @@ fn settings(r: &mut Random, odd: bool) -> Vec<u8> {
     let tad = match r.below(8) {
         0..=3 => 0,
         4..=6 => r.below(1_000) as u32,
-        // every mark is late, by about a second
+        // nearly every mark is late, many by a second or more
         _ => second(profile) - 1 - r.below(1_000) as u32,
     };
     let put = |profile: u8, n: u16, site: u16, tad: u32| [&[profile][..], &n.to_be_bytes(), &site.to_be_bytes(), &tad.to_be_bytes()].concat();

@@ -288,10 +288,10 @@ fn mark_text(profile: u8, mark: &Mark) -> Option<String> {
     match mark.kind {
         0 => None,
         1 => Some(String::from("untimed")),
-        kind if kind == 2 + profile && mark.times == (Times { reference: mark.times.reference, ..Times::default() }) => {
+        kind if kind == 2 + 3 * profile && mark.times == (Times { reference: mark.times.reference, ..Times::default() }) => {
             Some(format!("late {}", mark.times.reference))
         }
-        kind if kind == 4 + profile => {
+        kind if kind == 3 + profile => {
             let Times { reference, emission, modulation, wait } = mark.times;
             Some(format!("released reference {reference} emission {emission} modulation {modulation} wait {wait}"))
         }

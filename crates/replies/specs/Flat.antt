@@ -1,5 +1,5 @@
 -- A reply to a packet as plain numbers, all 0 where there is nothing to say.
-use Rattle.std.specs.Prelude.{ℕ, ◌+◌, Bool, true, false, pos}
+use Rattle.std.specs.Prelude.{ℕ, ◌+◌, ◌*◌, Bool, true, false, pos}
 use Rattle.std.proofs.Math.Option.{Option, none, some}
 use Rattle.wire.specs.Reply.{Reply, refused, given}
 use Rattle.times.specs.Release.{Times, late, released}
@@ -30,12 +30,12 @@ notice_number taken = 0
 notice_number slip = 0
 notice_number (ignored k) = k
 
--- the kind of a mark that is due says its profile, and so the unit of its lateness or its times
+-- the kind of a mark that is due says its profile, and so the unit of its lateness or its times; 5 came with Paper 3
 abbrev pub mark_kind : Mark → ℕ
 mark_kind unmarked = 0
 mark_kind untimed = 1
-mark_kind (due profile (late x)) = profile + 2
-mark_kind (due profile (released t)) = profile + 4
+mark_kind (due profile (late x)) = 2 + 3 * profile
+mark_kind (due profile (released t)) = profile + 3
 
 abbrev pub no_times : MarkTimes
 no_times = record { reference = 0; emission = 0; modulation = 0; wait = pos 0 }
@@ -43,7 +43,7 @@ no_times = record { reference = 0; emission = 0; modulation = 0; wait = pos 0 }
 abbrev pub flat_times : Times → MarkTimes
 flat_times t = record { reference = t.reference; emission = t.emission; modulation = t.modulation; wait = t.wait }
 
--- in C they are a union: a late mark has its lateness where the first of the times stands, and nothing behind it
+-- in C lateness and times are a union: a late mark has its lateness where the first of the times stands, and 0 behind it
 abbrev pub late_by : ℕ → MarkTimes
 late_by x = record { reference = x; emission = 0; modulation = 0; wait = pos 0 }
 

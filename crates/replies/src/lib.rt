@@ -13,7 +13,8 @@ use state::Slave;
 use times::{Due, Times, Unit};
 use wire::Refusal;
 
-// What a mark is released with, in the unit of its profile; a late mark has its lateness in place of the first, and 0 behind it. In C all this is one union.
+// What a mark is released with, in the unit of its profile; a late mark has its lateness in place of the first, and 0 behind it. In C all this is one
+// union.
 #[repr(C)]
 #[derive(Clone, Copy, Default)]
 pub struct MarkTimes {
@@ -23,7 +24,7 @@ pub struct MarkTimes {
     pub wait: i64,
 }
 
-// A mark: 0 none, 1 untimed; late in profile 0 (2) or 1 (3), with its number and how late it is; released in profile 0 (4) or 1 (5), with its times. What
+// A mark: 0 none, 1 untimed; late in profile 0 (2) or 1 (5), with its number and how late it is; released in profile 0 (3) or 1 (4), with its times. What
 // it has not is 0. The kind says the unit: steps of 100 ns in profile 0, bit periods in profile 1.
 #[repr(C)]
 #[derive(Clone, Copy, Default)]
@@ -76,7 +77,7 @@ impl<T: Unit> From<Due<T>> for Mark {
     fn from(d: Due<T>) -> Mark {
         match d {
             Due::Late(x) => Mark {
-                kind: T::PROFILE + 2,
+                kind: 2 + 3 * T::PROFILE,
                 number: Refusal::Late.number(),
                 times: MarkTimes {
                     reference: x.count(),
@@ -84,7 +85,7 @@ impl<T: Unit> From<Due<T>> for Mark {
                 },
             },
             Due::Released(t) => Mark {
-                kind: T::PROFILE + 4,
+                kind: T::PROFILE + 3,
                 times: t.into(),
                 ..Mark::default()
             },

@@ -274,8 +274,8 @@ mended_p3 = p3_notice 0x61 0xC1 0x7F 0x7E 0x41
 abbrev p3_board : Board
 p3_board = record { profile = 0; n = 2016; site = 7; tad = 0 }
 
--- profile 1, the adapter Z: notices on the marks themselves, with an MD of 100 or 110. The first mark's is on label 0; one packet is lost and told, and the
--- next mark comes 90 units after its STS, to a TAD of 20, with a notice of its own
+-- profile 1, notices on the marks themselves as the adapter Z has them, with an MD of 100 or 110. The first is on the mark at 624, which is untimed; 621
+-- packets are lost and told; the mark at 1248 comes 90 units after its STS, to a TAD of 20, with a notice of its own
 abbrev behind : List Call
 behind = plain 625 2 ∷ gap 621 ∷ plain 1247 4 ∷ []
 
@@ -289,11 +289,11 @@ pub mended_examples :
 unfolding judged hear leave slave_after start_of packet_of numbers_of gap_of sound settings_kept admits is_mega_frame at_some_rate second parts_fit hunting_fits is_unset is_uncounted is_zero locked_fits frequency_fits index_fits waiting_fits is_nothing delay_kept delay_fits delay_fits_a110 within arrival_refusal carries taken_refusal limited judge_mip judge_arrived judge_given step_of counted passed unheard took mark_at mark_taken notice_taken release_at due_of wrap modulation link_delay gapped section_refusal settings_of entries_in functions_of functions_in length_fits set_by addressed register register_from bits_in bit_in
 mended_examples = (
   record {
-    lengthened = record { is_sound = refl; taken = refl; longer_taken = refl; none_behind = tt; same_tick = refl; alike = refl };
+    lengthened = record { is_sound = refl; taken = refl; longer_taken = refl; none_behind = tt; same_tick = refl; own = 0; alike = refl };
     was_late = refl;
   },
   record {
-    lengthened = record { is_sound = refl; taken = refl; longer_taken = refl; none_behind = (refl, (tt, (refl, tt))); same_tick = refl; alike = refl };
+    lengthened = record { is_sound = refl; taken = refl; longer_taken = refl; none_behind = (refl, (tt, (refl, tt))); same_tick = refl; own = 10; alike = refl };
     was_late = refl;
   },
 )

@@ -61,12 +61,12 @@ module _ (y : ℕ) where
 
   -- ---- and a mark that is due in the one is due in the other by the longer MD
   step_longer :
-      (s : Slave) (tick profile : ℕ) (d : Due) → OwnDue s tick profile d → (j : Judgement) → mark_in (step_of s j tick).reply ≡ due profile d
-      → mark_in (step_of (longer_in y s) (longer y j) tick).reply ≡ due profile (due_longer y s tick)
+      (s : Slave) (tick profile : ℕ) (d : Due) → OwnDue s tick profile d → (z : ℕ) (j : Judgement) → mark_in (step_of s j tick).reply ≡ due profile d
+      → mark_in (step_of (longer_in y s) (longer z j) tick).reply ≡ due profile (due_longer y s tick)
   unfolding step_of
-  step_longer s tick profile d o (Refuse k) e = absurd (unmarked_apart profile d e)
-  step_longer s tick profile d o (Counts k) e = counted_mark y s tick profile d o k
-  step_longer s tick profile d o (Takes x) e = taken_mark y s tick profile d o x (x.md + y) e
+  step_longer s tick profile d o z (Refuse k) e = absurd (unmarked_apart profile d e)
+  step_longer s tick profile d o z (Counts k) e = counted_mark y s tick profile d o k
+  step_longer s tick profile d o z (Takes x) e = taken_mark y s tick profile d o x (x.md + z) e
 
   -- ---- two feeds
   module _ (s : Slave) (a a' : Arrival) (behind : List Call) (b b' : Arrival) (l : Lengthened s y a a' behind b b') where
@@ -101,7 +101,7 @@ module _ (y : ℕ) where
           ap (λ (x : Slave). mark_in (hear x b').reply) w.so
           ∙ ap (λ (r : Result Report). mark_in r.reply) (heard (longer_in y one) (subst (λ (x : Slave). sound x ≡ true) w.so w.other_sound) b')
           ∙ ap₂ (λ (j : Judgement) (t : ℕ). mark_in (step_of (longer_in y one) j t).reply) l.alike l.same_tick
-          ∙ step_longer one (tick_of b) profile (late x) o (judged_by one b)
+          ∙ step_longer one (tick_of b) profile (late x) o l.own (judged_by one b)
           (sym (ap (λ (r : Result Report). mark_in r.reply) (heard one w.one_sound b)) ∙ answer)
 
       held : x ≤ y → Held profile (y - x) (mark_behind s a' behind b')

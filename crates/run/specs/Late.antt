@@ -17,7 +17,7 @@ takes (Refuse k) = false
 takes (Counts k) = false
 takes (Takes x) = true
 
--- the same judgement of a notice with MD longer by y; what carries none stays
+-- the same judgement of a notice with MD longer by y; where none is taken it stays
 abbrev pub longer : ℕ → Judgement → Judgement
 longer y (Refuse k) = Refuse k
 longer y (Counts k) = Counts k
@@ -32,15 +32,16 @@ abbrev pub NoneTaken : Slave → List Call → Type 0
 NoneTaken s [] = Unit {0}
 NoneTaken s (c ∷ cs) = TakesNone s c × NoneTaken (leave s c) cs
 
--- two feeds up to a mark. A sound slave takes the notice that a carries, or the same with MD longer by y, which a' carries: 11 and 13 allow both. The calls
--- behind it take none. Then b comes, or at the same tick b', which is judged alike, but for the longer MD of a notice of its own
+-- two feeds up to a mark. A sound slave takes the notice that a carries, or the same with MD longer by y, which a' carries: 11 and 13 allow both. The
+-- calls behind it take none. Then b comes, or at the same tick b', which is judged alike; where it has a notice of its own, that one's MD may be longer
 pub record Lengthened (s : Slave) (y : ℕ) (a a' : Arrival) (behind : List Call) (b b' : Arrival) : Type 0 where
   pub is_sound : sound s ≡ true
   pub taken : takes (judged_by s a) ≡ true
   pub longer_taken : judged_by s a' ≡ longer y (judged_by s a)
   pub none_behind : NoneTaken (hear s a).slave behind
   pub same_tick : tick_of b' ≡ tick_of b
-  pub alike : judged_by (slave_after (hear s a).slave behind) b' ≡ longer y (judged_by (slave_after (hear s a).slave behind) b)
+  pub own : ℕ
+  pub alike : judged_by (slave_after (hear s a).slave behind) b' ≡ longer own (judged_by (slave_after (hear s a).slave behind) b)
 
 -- the mark that comes with b behind the notice and these calls
 abbrev pub mark_behind : Slave → Arrival → List Call → Arrival → Mark

@@ -31,7 +31,7 @@ mark_text (due profile (released t)) = decimal t.emission
 abbrev pub report_text : Report → List ℕ
 report_text r = label_text r.label ++ (space ∷ []) ++ notice_text r.notice ++ (space ∷ []) ++ mark_text r.mark ++ newline ∷ []
 
--- the same at the end of a line
+-- a number behind its word at the end of a line
 abbrev pub numbered : List ℕ → ℕ → List ℕ
 numbered word k = worded word k ++ newline ∷ []
 

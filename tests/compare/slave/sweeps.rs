@@ -145,7 +145,7 @@ impl Comparison<Calls> {
         Ok(())
     }
 
-    /// A due mark that is late by anything from one unit to two seconds less two: MD + OD and TAD on their limits, and ticks about STS.
+    /// A due mark that is late by one unit to two seconds less two units, on and beside these limits: MD + OD and TAD on theirs, and ticks about STS.
     pub fn sweep_late(&mut self) -> Compared {
         for slave in kinds().into_iter().filter(|slave| slave.pending == 1) {
             let (mip, numbers) = self.notices(&slave);
