@@ -4,13 +4,13 @@
 
 ghost use Rattle.std.specs.Prelude.{◌≡◌};
 ghost use Rattle.wire.specs.Reply.{refused, number_of, reply_of};
-ghost use Rattle.times.specs.Answer.{times_in, due_in};
-ghost use Rattle.slave.specs.Answer.{due, notice_of, mark_of, report_of};
-ghost use Rattle.replies.specs.Flat.{notice_kind, notice_number, flat_times, flat_mark, flat_report, flat_reply};
+ghost use Rattle.times.specs.Answer.{due_in};
+ghost use Rattle.slave.specs.Answer.{due, mark_number, notice_of, mark_of, report_of};
+ghost use Rattle.replies.specs.Flat.{notice_kind, notice_number, mark_kind, mark_times, flat_mark, flat_report, flat_reply};
 
 use slave::{Answer, Counted, MarkPart, NoticePart};
 use state::Slave;
-use times::{Due, Times, Unit};
+use times::{Due, Unit};
 use wire::Refusal;
 
 // What a mark is released with, in the unit of its profile; a late mark has its lateness in place of the first, and 0 behind it. In C all this is one
@@ -57,39 +57,77 @@ pub struct Step {
     pub reply: PacketReply,
 }
 
-impl<T: Unit> From<Times<T>> for MarkTimes {
-    ghost from_gives = { λ t r. r ≡ flat_times (times_in T.count t) };
-
-    fn from(t: Times<T>) -> MarkTimes {
-        MarkTimes {
-            reference: t.reference.count(),
-            emission: t.emission.count(),
-            modulation: t.modulation.count(),
-            wait: t.wait,
-        }
-    }
-}
-
-// A mark that is due, in either unit.
+// A mark that is due, in either unit. Each part is chosen by itself, which the compiler does without a branch; a released mark takes longer where one match
+// chooses them together.
 impl<T: Unit> From<Due<T>> for Mark {
     ghost from_gives = { λ d r. r ≡ flat_mark (due T.PROFILE (due_in T.count d)) };
 
     fn from(d: Due<T>) -> Mark {
-        match d {
-            Due::Late(x) => Mark {
-                kind: 2 + 3 * T::PROFILE,
-                number: Refusal::Late.number(),
-                times: MarkTimes {
-                    reference: x.count(),
-                    ..MarkTimes::default()
-                },
-            },
-            Due::Released(t) => Mark {
-                kind: T::PROFILE + 3,
-                times: t.into(),
-                ..Mark::default()
+        Mark {
+            kind: due_kind(d),
+            number: due_number(d),
+            times: MarkTimes {
+                reference: due_reference(d),
+                emission: due_emission(d),
+                modulation: due_modulation(d),
+                wait: due_wait(d),
             },
         }
+    }
+}
+
+fn due_kind<T: Unit>(d: Due<T>) -> u8
+    ensures { result ≡ mark_kind (due T.PROFILE (due_in T.count d)) }
+{
+    match d {
+        Due::Late(_) => 2 + 3 * T::PROFILE,
+        Due::Released(_) => T::PROFILE + 3,
+    }
+}
+
+fn due_number<T: Unit>(d: Due<T>) -> u8
+    ensures { result ≡ mark_number (due T.PROFILE (due_in T.count d)) }
+{
+    match d {
+        Due::Late(_) => Refusal::Late.number(),
+        Due::Released(_) => 0,
+    }
+}
+
+// Or the lateness.
+fn due_reference<T: Unit>(d: Due<T>) -> u32
+    ensures { result ≡ (mark_times (due T.PROFILE (due_in T.count d))).reference }
+{
+    match d {
+        Due::Late(x) => x.count(),
+        Due::Released(t) => t.reference.count(),
+    }
+}
+
+fn due_emission<T: Unit>(d: Due<T>) -> u32
+    ensures { result ≡ (mark_times (due T.PROFILE (due_in T.count d))).emission }
+{
+    match d {
+        Due::Late(_) => 0,
+        Due::Released(t) => t.emission.count(),
+    }
+}
+
+fn due_modulation<T: Unit>(d: Due<T>) -> u32
+    ensures { result ≡ (mark_times (due T.PROFILE (due_in T.count d))).modulation }
+{
+    match d {
+        Due::Late(_) => 0,
+        Due::Released(t) => t.modulation.count(),
+    }
+}
+
+fn due_wait<T: Unit>(d: Due<T>) -> i64
+    ensures { result ≡ (mark_times (due T.PROFILE (due_in T.count d))).wait }
+{
+    match d {
+        Due::Late(_) => 0,
+        Due::Released(t) => t.wait,
     }
 }
 
