@@ -57,8 +57,8 @@ pub struct Step {
     pub reply: PacketReply,
 }
 
-// A mark that is due, in either unit. Each part is chosen by itself, which the compiler does without a branch; a released mark takes longer where one match
-// chooses them together.
+// A mark that is due, in either unit. Each part is chosen by itself, which the compiler does without a branch; a released mark takes longer where one
+// match chooses them together.
 impl<T: Unit> From<Due<T>> for Mark {
     ghost from_gives = { λ d r. r ≡ flat_mark (due T.PROFILE (due_in T.count d)) };
 
@@ -94,7 +94,7 @@ fn due_number<T: Unit>(d: Due<T>) -> u8
     }
 }
 
-// Or the lateness.
+// The reference emission time; of a late mark the lateness.
 fn due_reference<T: Unit>(d: Due<T>) -> u32
     ensures { result ≡ (mark_times (due T.PROFILE (due_in T.count d))).reference }
 {
