@@ -27,6 +27,7 @@ extern "C" {
     fn probe_settings(field: *const u8, length: usize, site: u16, od: i16, frequency: i32, power: u16) -> Settings;
     fn probe_dvb_delay_fits(md: u32, od: i16) -> bool;
     fn probe_a110_delay_fits(md: u32, od: i16, tad: u32) -> bool;
+    fn probe_length(constellation: u8, rate: u8) -> u16;
     fn probe_admits(profile: u8, n: u16) -> bool;
     fn probe_label(n: u16, pointer: u16) -> Label;
     fn probe_mobile_place(i: u8, p: u16) -> u16;
@@ -49,6 +50,11 @@ pub fn delay_fits(profile: u8, md: u32, od: i16, tad: u32) -> bool {
         0 => unsafe { probe_dvb_delay_fits(md, od) },
         _ => unsafe { probe_a110_delay_fits(md, od, tad) },
     }
+}
+
+/// 0 where there is no such constellation or code rate.
+pub fn length(constellation: u8, rate: u8) -> u16 {
+    unsafe { probe_length(constellation, rate) }
 }
 
 pub fn admits(profile: u8, n: u16) -> bool {

@@ -161,6 +161,13 @@ impl Comparison<Basics> {
         }
     }
 
+    fn length(&mut self, constellation: u8, rate: u8) -> Compared {
+        let asked = || format!("constellation {constellation}, code rate {rate}");
+        let n = self.same("length", asked, probe::length(constellation, rate), basics::length(constellation, rate))?;
+        self.saw("cadence", "length", n);
+        Ok(())
+    }
+
     fn admits(&mut self, profile: u8, n: u16) -> Compared {
         let ours = probe::admits(profile, n);
         let admitted = self.same("admits", || format!("profile {profile}, n {n}"), ours, basics::admits(profile, n))?;
@@ -383,8 +390,13 @@ impl Comparison<Basics> {
         Ok(())
     }
 
-    /// Every profile with every n, every M/H index with every label, and every pointer of each cadence.
+    /// Every constellation with every code rate, every profile with every n, every M/H index with every label, and every pointer of each cadence.
     fn sweep_cadence(&mut self) -> Compared {
+        for constellation in 0..=255 {
+            for rate in 0..=255 {
+                self.length(constellation, rate)?;
+            }
+        }
         for profile in 0..=255 {
             for n in 0..=65_535 {
                 self.admits(profile, n)?;
@@ -436,6 +448,7 @@ fn required() -> Cases {
         ("settings", "empty loop", vec![0]),
         ("settings", "entry for another (0), this site (1) or all (2)", vec![0, 1, 2]),
         ("label", "number", vec![0, 12]),
+        ("cadence", "length", basics::dvb_cadences().map(i64::from).chain([0]).collect()),
         ("cadence", "n in profile 0", basics::dvb_cadences().map(i64::from).collect()),
         ("cadence", "n in profile 1", vec![624]),
         ("register", "of length", lengths),

@@ -266,10 +266,29 @@ pub fn release(profile: u8, sts: u32, md: u32, od: i16, tad: u32, arrival: u32) 
 
 // ---- Cadence (01, "Cadence"; number 12)
 
-/// The fifteen lengths of profile 0: n = 2016 × v × r.
+/// The length of a mega-frame, n = 2016 × v × r, for QPSK, 16-QAM and 64-QAM (0 to 2) at the code rates 1/2, 2/3, 3/4, 5/6 and 7/8 (0 to 4);
+/// 0 where there is no such one.
+pub fn length(constellation: u8, rate: u8) -> u16 {
+    let bits = match constellation {
+        0 => 2,
+        1 => rule(4, ConstellationsExchanged, 6),
+        2 => rule(6, ConstellationsExchanged, 4),
+        _ => return 0,
+    };
+    let (over, under) = match rate {
+        0 => (1, 2),
+        1 => rule((2, 3), CodeRatesExchanged, (3, 4)),
+        2 => rule((3, 4), CodeRatesExchanged, (2, 3)),
+        3 => (rule(5, CodeRateLost, 4), 6),
+        4 => (7, 8),
+        _ => return 0,
+    };
+    2016 * bits / under * over
+}
+
+/// The fifteen lengths of profile 0.
 pub fn dvb_cadences() -> impl Iterator<Item = u16> {
-    let rates = [(1, 2), (2, 3), (3, 4), (rule(5, CodeRateLost, 4), 6), (7, 8)];
-    [2, 4, 6].into_iter().flat_map(move |bits| rates.map(|(over, under)| 2016 * bits / under * over))
+    (0..3).flat_map(|constellation| (0..5).map(move |rate| length(constellation, rate)))
 }
 
 /// Whether n is a cadence of the profile.

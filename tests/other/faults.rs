@@ -74,6 +74,8 @@ faults! {
         TadInDvbDelay: "13 counts TAD in profile 0 too",
         A110DelayFromZero: "in profile 1, MD + OD + TAD may be 0",
         CodeRateLost: "the cadences of rate 5/6 are not known",
+        CodeRatesExchanged: "the cadences of the code rates 2/3 and 3/4 are exchanged",
+        ConstellationsExchanged: "the cadences of 16-QAM and 64-QAM are exchanged",
         PointerOfN: "a pointer of n or more is taken for label 0",
         PlaceOffByOne: "the M/H place counts from 36",
     ;

@@ -43,6 +43,11 @@ fn plain_settings(field: &[u8], site: u16, before: Settings) -> probe::Settings 
     basics::settings(field, site, before).into()
 }
 
+#[inline(never)]
+fn plain_admits(profile: u8, n: u16) -> bool {
+    basics::admits(profile, n)
+}
+
 pub fn measure() {
     let r = &mut Random(1);
     let bytes: Vec<Vec<u8>> = (0..INPUTS).map(|_| r.bytes(188)).collect();
@@ -112,4 +117,12 @@ pub fn measure() {
         "settings of a site, 163 bytes",
         vec![candidate("proved", |k| probe::settings(&fields[k], 7, before)), candidate("Rust", |k| plain_settings(&fields[k], 7, before))],
     );
+    // A slave has one n for good, so each has a row of its own.
+    for n in [2016, 6048, 10_584] {
+        assert!(probe::admits(0, n) && plain_admits(0, n));
+        table(
+            &format!("n = {n} admitted"),
+            vec![candidate("proved", |_| probe::admits(black_box(0), black_box(n))), candidate("Rust", |_| plain_admits(black_box(0), black_box(n)))],
+        );
+    }
 }

@@ -223,6 +223,7 @@ pub fn measure() {
     handed(hunting);
     Calls::new(|_| hunting, |_| notices::null()).measure("null packet, hunting", 0, 0);
     Calls::new(locked, |_| notices::null()).measure("null packet, locked", 0, 0);
+    Calls::new(|k| Slave { n: 10_584, ..locked(k) }, |_| notices::null()).measure("null packet, locked, n = 10584", 0, 0);
     Calls::new(|k| of_a110(locked(k)), |_| notices::null()).measure("null packet, locked, profile 1", 0, 0);
     Calls::new(due, |_| notices::null()).measure("null packet on a mark", 0, 3);
     Calls::new(|k| of_a110(due(k)), |_| notices::null()).measure("null packet on a mark, profile 1", 0, 3);

@@ -259,6 +259,13 @@ fn cadence(v: &mut Vectors) {
     for (name, n) in [("64-QAM 1/2", 6048), ("64-QAM 2/3", 8064), ("64-QAM 3/4", 9072), ("64-QAM 5/6", 10_080), ("P9, 64-QAM 7/8", 10_584)] {
         v.admits(name, 0, n);
     }
+    for (c, constellation) in (0..).zip(["QPSK", "16-QAM", "64-QAM"]) {
+        for (r, rate) in (0..).zip(["1/2", "2/3", "3/4", "5/6", "7/8"]) {
+            v.length(&format!("{constellation} {rate}"), c, r);
+        }
+    }
+    v.length("no constellation", 3, 0);
+    v.length("no code rate", 0, 5);
     v.admits("A/110", 1, 624);
     v.admits("A/110's cadence in profile 0", 0, 624);
     v.admits("a DVB cadence in profile 1", 1, 2016);

@@ -107,6 +107,12 @@ impl Vectors {
         self.line(name, format!("label of pointer {pointer}, n {n}"), numbered(label.number, || format!("label {}", label.value)));
     }
 
+    fn length(&self, name: &str, constellation: u8, rate: u8) {
+        let n = if self.proved { probe::length(constellation, rate) } else { other::basics::length(constellation, rate) };
+        let output = if n == 0 { String::from("none") } else { n.to_string() };
+        self.line(name, format!("length for constellation {constellation} and code rate {rate}"), output);
+    }
+
     fn admits(&self, name: &str, profile: u8, n: u16) {
         let admitted = if self.proved { probe::admits(profile, n) } else { other::basics::admits(profile, n) };
         self.line(name, format!("cadence {n} in profile {profile}"), String::from(if admitted { "yes" } else { "no" }));

@@ -1,16 +1,21 @@
 -- Laws of the cadence's length: the fifteen mega-frames have whole lengths, profile 0 admits these and no other, and every n admitted is 624 to 10,584.
-use mathlib.Core.Path.{◌≡◌, refl, sym, ◌∙◌}
-use mathlib.Core.Bool.{Bool, true, false, ◌||◌, false≢true}
-use mathlib.Core.List.{List, [], ◌∷◌}
+use mathlib.Core.Path.{◌≡◌, refl, sym, ap, ap₂, ◌∙◌}
+use mathlib.Core.Bool.{Bool, true, false, ◌||◌, ◌&&◌, cond, false≢true}
+use mathlib.Core.List.{List, [], ◌∷◌, map}
 use Prim.Native.Nat.{ℕ, zero, suc, ◌*◌, ◌≤◌}
 use native.Mathlib.Omega.{arith}
 use lib.Dec.{eqb}
+use lib.ListN.{get_or}
+use Rattle.std.specs.List.{list_any, flat_map}
+use Rattle.std.specs.Cmp.{nat_eq_equiv}
+use Rattle.std.proofs.lemmas.List.Folds.{list_any-append}
 use borrow.Author.Tests.{eqb-true, ne_eqb}
 use Rattle.cadence.specs.declared.Constellation.{Constellation}
 use Rattle.cadence.specs.declared.Constellation.TheVariants.{Qpsk, Qam16, Qam64}
 use Rattle.cadence.specs.declared.CodeRate.{CodeRate}
 use Rattle.cadence.specs.declared.CodeRate.TheVariants.{Half, TwoThirds, ThreeQuarters, FiveSixths, SevenEighths}
-use Rattle.cadence.specs.Cadence.{bits_of, numerator_of, denominator_of, length_of, constellations, code_rates, any_of, at_some_rate, is_mega_frame, admits}
+use Rattle.cadence.specs.declared.TheConstants.{LENGTHS}
+use Rattle.cadence.specs.Cadence.{data_frame, bits_of, numerator_of, denominator_of, length_of, constellations, code_rates, row_of, column_of, any_of, at_some_rate, is_mega_frame, admits}
 
 -- ---- what is computed at each of the fifteen holds at any
 
@@ -35,6 +40,57 @@ exact = pair _ (omega arith)
 
 pub length_range : (c : Constellation) (r : CodeRate) → (2016 ≤ length_of c r) × (length_of c r ≤ 10_584)
 length_range = pair _ (omega arith)
+
+-- ---- the code's table
+
+-- the entries, all at once, are the rule's
+pub table : LENGTHS ≡ map (λ c. map (length_of c) code_rates) constellations
+table = refl
+
+at_row : (f : Constellation → List ℕ) (c : Constellation) → get_or (map f constellations) (row_of c) [] ≡ f c
+at_row f Qpsk = refl
+at_row f Qam16 = refl
+at_row f Qam64 = refl
+
+at_column : (f : CodeRate → ℕ) (r : CodeRate) → get_or (map f code_rates) (column_of r) 0 ≡ f r
+at_column f Half = refl
+at_column f TwoThirds = refl
+at_column f ThreeQuarters = refl
+at_column f FiveSixths = refl
+at_column f SevenEighths = refl
+
+-- and so is each, in its constellation's row and its code rate's column
+pub entry : (c : Constellation) (r : CodeRate) → get_or (get_or LENGTHS (row_of c) []) (column_of r) 0 ≡ length_of c r
+entry c r =
+    ap (λ (rows : List (List ℕ)). get_or (get_or rows (row_of c) []) (column_of r) 0) table
+    ∙ ap (λ (xs : List ℕ). get_or xs (column_of r) 0) (at_row (λ c. map (length_of c) code_rates) c)
+    ∙ at_column (length_of c) r
+
+-- n stands in the table
+abbrev pub in_table : ℕ → Bool
+in_table n = any_of LENGTHS (λ row. any_of row (eqb n))
+
+pub mega_frames : (n : ℕ) → is_mega_frame n ≡ in_table n
+unfolding is_mega_frame at_some_rate
+mega_frames n = ap (λ (rows : List (List ℕ)). any_of rows (λ row. any_of row (eqb n))) (sym table)
+
+-- which n a profile admits
+pub admitted : (profile n : ℕ) → admits profile n ≡ cond (eqb profile 1) (eqb n data_frame) (eqb profile 0 && in_table n)
+unfolding admits
+admitted profile n = ap (λ (b : Bool). cond (eqb profile 1) (eqb n data_frame) (eqb profile 0 && b)) (mega_frames n)
+
+-- the same test of the rows' entries one after another
+in_row : (n : ℕ) (row : List ℕ) → list_any (λ x. eqb x n) row ≡ any_of row (eqb n)
+in_row n [] = refl
+in_row n (x ∷ row) = ap₂ (λ (p q : Bool). p || q) (nat_eq_equiv.symm x n) (in_row n row)
+
+in_rows : (n : ℕ) (rows : List (List ℕ)) → list_any (λ x. eqb x n) (flat_map (λ row. row) rows) ≡ any_of rows (λ row. any_of row (eqb n))
+in_rows n [] = refl
+in_rows n (row ∷ rows) =
+    list_any-append (λ x. eqb x n) row (flat_map (λ row. row) rows) ∙ ap₂ (λ (p q : Bool). p || q) (in_row n row) (in_rows n rows)
+
+pub contained : (n : ℕ) → list_any (λ x. eqb x n) (flat_map (λ row. row) LENGTHS) ≡ is_mega_frame n
+contained n = in_rows n LENGTHS ∙ sym (mega_frames n)
 
 -- ---- profile 0 admits these lengths, and no other
 

@@ -41,6 +41,19 @@ constellations = Qpsk ∷ Qam16 ∷ Qam64 ∷ []
 abbrev pub code_rates : List CodeRate
 code_rates = Half ∷ TwoThirds ∷ ThreeQuarters ∷ FiveSixths ∷ SevenEighths ∷ []
 
+-- the table of the lengths has a row for each constellation and a column for each code rate, in this order
+abbrev pub row_of : Constellation → ℕ
+row_of Qpsk = 0
+row_of Qam16 = 1
+row_of Qam64 = 2
+
+abbrev pub column_of : CodeRate → ℕ
+column_of Half = 0
+column_of TwoThirds = 1
+column_of ThreeQuarters = 2
+column_of FiveSixths = 3
+column_of SevenEighths = 4
+
 -- some member of the list passes the test
 abbrev pub any_of : {A : Type 0} → List A → (A → Bool) → Bool
 any_of [] f = false

@@ -2,14 +2,25 @@
 #![tactic(auto)]
 
 ghost use Rattle.std.specs.Prelude.{◌≡◌};
-ghost use Rattle.cadence.specs.Cadence.{bits_of, numerator_of, denominator_of, length_of, at_some_rate, is_mega_frame, admits};
+ghost use Rattle.cadence.specs.Cadence.{length_of, row_of, column_of, is_mega_frame, admits};
 ghost use Rattle.cadence.specs.Label.{label_of, pointer_of, in_cadence};
 ghost use Rattle.wire.specs.Reply.{reply_of};
 ghost use Rattle.cadence.specs.MobileFrame.{mobile_place};
 
 use wire::Refusal;
 
-// How many bits a carrier has: v is 2, 4 or 6.
+// The packets of a mega-frame: twice the RS packets of a super-frame in 8K, eight times those of one in 2K (TS 101 191 clause 5).
+// Rows: QPSK, 16-QAM, 64-QAM. Columns: code rates 1/2, 2/3, 3/4, 5/6, 7/8.
+const LENGTHS: [[u16; 5]; 3] = [
+    [2016, 2688, 3024, 3360, 3528],
+    [4032, 5376, 6048, 6720, 7056],
+    [6048, 8064, 9072, 10080, 10584],
+];
+
+// The packets of a data frame (A/110 9.1.2.1).
+const DATA_FRAME: u16 = 624;
+
+// The constellations, in the order of the rows.
 #[derive(Clone, Copy)]
 pub enum Constellation {
     Qpsk,
@@ -17,27 +28,15 @@ pub enum Constellation {
     Qam64,
 }
 
-// The constellations, for the lengths that there are.
-const CONSTELLATIONS: [Constellation; 3] = [
-    Constellation::Qpsk,
-    Constellation::Qam16,
-    Constellation::Qam64,
-];
-
 impl Constellation {
-    // v.
-    fn bits(self) -> u32
-        ensures { result ≡ bits_of self }
+    fn row(self) -> usize
+        ensures { result ≡ row_of self }
     {
-        match self {
-            Constellation::Qpsk => 2,
-            Constellation::Qam16 => 4,
-            Constellation::Qam64 => 6,
-        }
+        self as usize
     }
 }
 
-// r is 1/2, 2/3, 3/4, 5/6 or 7/8.
+// The code rates, in the order of the columns.
 #[derive(Clone, Copy)]
 pub enum CodeRate {
     Half,
@@ -47,64 +46,26 @@ pub enum CodeRate {
     SevenEighths,
 }
 
-// The code rates, for the same.
-const CODE_RATES: [CodeRate; 5] = [
-    CodeRate::Half,
-    CodeRate::TwoThirds,
-    CodeRate::ThreeQuarters,
-    CodeRate::FiveSixths,
-    CodeRate::SevenEighths,
-];
-
 impl CodeRate {
-    // The numerator of r.
-    fn numerator(self) -> u32
-        ensures { result ≡ numerator_of self }
+    fn column(self) -> usize
+        ensures { result ≡ column_of self }
     {
-        match self {
-            CodeRate::Half => 1,
-            CodeRate::TwoThirds => 2,
-            CodeRate::ThreeQuarters => 3,
-            CodeRate::FiveSixths => 5,
-            CodeRate::SevenEighths => 7,
-        }
-    }
-
-    // The denominator of r.
-    fn denominator(self) -> u32
-        ensures { result ≡ denominator_of self }
-    {
-        match self {
-            CodeRate::Half => 2,
-            CodeRate::TwoThirds => 3,
-            CodeRate::ThreeQuarters => 4,
-            CodeRate::FiveSixths => 6,
-            CodeRate::SevenEighths => 8,
-        }
+        self as usize
     }
 }
 
-// The packets of a mega-frame: 2016 × v × r. A cast by `as` is proved to lose nothing, here and below: `try_from` would have an answer that never comes.
+// The packets of a mega-frame with this constellation and this code rate.
 pub fn length(c: Constellation, r: CodeRate) -> u16
     ensures { result ≡ length_of c r }
 {
-    (2016 * c.bits() * r.numerator() / r.denominator()) as u16
-}
-
-// Whether n is the length of a mega-frame with this constellation.
-#[tactic(auto, unfolding(crate::specs::Cadence::at_some_rate))]
-fn at_some_rate(n: u16, c: Constellation) -> bool
-    ensures { result ≡ at_some_rate n c }
-{
-    CODE_RATES.iter().any(|r| n == length(c, *r))
+    LENGTHS[c.row()][r.column()]
 }
 
 // Whether n is the length of a mega-frame.
-#[tactic(auto, unfolding(crate::specs::Cadence::is_mega_frame))]
 fn is_mega_frame(n: u16) -> bool
     ensures { result ≡ is_mega_frame n }
 {
-    CONSTELLATIONS.iter().any(|c| at_some_rate(n, *c))
+    LENGTHS.as_flattened().contains(&n)
 }
 
 // Whether the profile has cadences of n packets. The profile is a number: C lends the slaves that have it, and any byte may stand there.
@@ -114,7 +75,7 @@ pub fn admits(profile: u8, n: u16) -> bool
 {
     match profile {
         0 => is_mega_frame(n),
-        1 => n == 624,
+        1 => n == DATA_FRAME,
         _ => false,
     }
 }
@@ -140,9 +101,9 @@ pub fn pointer_of(n: u16, label: u16) -> Result<u16, Refusal>
 // The marks of an M/H frame, whose indexes are below it.
 pub const FRAME_MARKS: u8 = 20;
 
-// The M/H place of the packet p after mark i.
+// The M/H place of the packet p after mark i. A cast by `as` is proved to lose nothing: `try_from` would have an answer that never comes.
 pub fn mobile_place(i: u8, p: u16) -> u16
     ensures { result ≡ mobile_place i p }
 {
-    ((37 + 624 * u32::from(i) + u32::from(p)) % 12480) as u16
+    ((37 + u32::from(DATA_FRAME) * u32::from(i) + u32::from(p)) % 12480) as u16
 }

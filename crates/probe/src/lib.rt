@@ -13,9 +13,10 @@ ghost use Rattle.cadence.specs.MobileFrame.{mobile_place};
 ghost use Rattle.slave.specs.Calls.{packet_of};
 ghost use Rattle.wire.specs.Reply.{refused};
 ghost use Rattle.replies.specs.Flat.{flat_reply, flat_left, flat_step};
-ghost use Rattle.probe.specs.Flat.{flat_settings, flat_label};
+ghost use Rattle.probe.specs.Flat.{flat_settings, flat_length, flat_label};
 
 use addressing::Settings;
+use cadence::{CodeRate, Constellation};
 use replies::Step;
 use state::Slave;
 use times::{Periods, Steps, Unit};
@@ -87,6 +88,31 @@ pub extern "C" fn probe_a110_delay_fits(md: u32, od: i16, tad: u32) -> bool
     ensures { result ≡ delay_fits_a110 a110_second md od tad }
 {
     Periods(md).delay_fits(od, Periods(tad))
+}
+
+// C has a constellation and a code rate by their places here.
+const CONSTELLATIONS: [Constellation; 3] = [
+    Constellation::Qpsk,
+    Constellation::Qam16,
+    Constellation::Qam64,
+];
+
+const CODE_RATES: [CodeRate; 5] = [
+    CodeRate::Half,
+    CodeRate::TwoThirds,
+    CodeRate::ThreeQuarters,
+    CodeRate::FiveSixths,
+    CodeRate::SevenEighths,
+];
+
+#[unsafe(no_mangle)]
+pub extern "C" fn probe_length(c: u8, r: u8) -> u16
+    ensures { result ≡ flat_length c r }
+{
+    match (CONSTELLATIONS.get(usize::from(c)), CODE_RATES.get(usize::from(r))) {
+        (Some(c), Some(r)) => cadence::length(*c, *r),
+        _ => 0,
+    }
 }
 
 #[unsafe(no_mangle)]
