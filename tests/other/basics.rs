@@ -267,7 +267,7 @@ pub fn release(profile: u8, sts: u32, md: u32, od: i16, tad: u32, arrival: u32) 
 // ---- Cadence (01, "Cadence"; number 12)
 
 /// The length of a mega-frame, n = 2016 × v × r, for QPSK, 16-QAM and 64-QAM (0 to 2) at the code rates 1/2, 2/3, 3/4, 5/6 and 7/8 (0 to 4);
-/// 0 where there is no such one.
+/// 0 where there is no such constellation or code rate.
 pub fn length(constellation: u8, rate: u8) -> u16 {
     let bits = match constellation {
         0 => 2,

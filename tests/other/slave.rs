@@ -84,7 +84,7 @@ struct Accepted {
 type Judged = Result<Option<Accepted>, u8>;
 
 /// Whether n is a cadence of the profile: 2016 × v × r, or 624.
-fn admits(profile: u8, n: u16) -> bool {
+pub fn admits(profile: u8, n: u16) -> bool {
     match profile {
         0 => matches!(n, 2016 | 2688 | 3024 | 3360 | 3528 | 4032 | 5376 | 6048 | 6720 | 7056 | 8064 | 9072 | 10_080 | 10_584),
         1 => n == 624,

@@ -1,4 +1,4 @@
-//! The check value, notices, and the settings of a site: one table of nanoseconds a call and ratios. The times of a mark are the slave's: they are
+//! The check value, notices, the settings of a site, and whether n is admitted: one table of nanoseconds a call and ratios. The times of a mark are the slave's: they are
 //! measured with its packets.
 
 use super::measure::{candidate, full_field, register_by_nibbles, table, INPUTS};
@@ -7,6 +7,7 @@ use crate::bindings::{probe, vikombare};
 use crate::inputs::notices;
 use crate::inputs::random::Random;
 use crate::other::basics::{self, Notice, Settings};
+use crate::other::slave;
 use std::cell::RefCell;
 use std::hint::black_box;
 
@@ -45,7 +46,7 @@ fn plain_settings(field: &[u8], site: u16, before: Settings) -> probe::Settings 
 
 #[inline(never)]
 fn plain_admits(profile: u8, n: u16) -> bool {
-    basics::admits(profile, n)
+    slave::admits(profile, n)
 }
 
 pub fn measure() {

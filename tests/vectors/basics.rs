@@ -261,7 +261,7 @@ fn cadence(v: &mut Vectors) {
     }
     for (c, constellation) in (0..).zip(["QPSK", "16-QAM", "64-QAM"]) {
         for (r, rate) in (0..).zip(["1/2", "2/3", "3/4", "5/6", "7/8"]) {
-            v.length(&format!("{constellation} {rate}"), c, r);
+            v.length(&format!("n of {constellation} {rate}"), c, r);
         }
     }
     v.length("no constellation", 3, 0);

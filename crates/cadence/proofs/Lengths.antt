@@ -1,4 +1,5 @@
--- Laws of the cadence's length: the fifteen mega-frames have whole lengths, profile 0 admits these and no other, and every n admitted is 624 to 10,584.
+-- Laws of the cadence's length: the fifteen mega-frames have whole lengths, the code's table has these, each in its row and its column, profile 0 admits
+-- what stands there and no other n, and every n admitted is 624 to 10,584.
 use mathlib.Core.Path.{◌≡◌, refl, sym, ap, ap₂, ◌∙◌}
 use mathlib.Core.Bool.{Bool, true, false, ◌||◌, ◌&&◌, cond, false≢true}
 use mathlib.Core.List.{List, [], ◌∷◌, map}
@@ -7,7 +8,6 @@ use native.Mathlib.Omega.{arith}
 use lib.Dec.{eqb}
 use lib.ListN.{get_or}
 use Rattle.std.specs.List.{list_any, flat_map}
-use Rattle.std.specs.Cmp.{nat_eq_equiv}
 use Rattle.std.proofs.lemmas.List.Folds.{list_any-append}
 use borrow.Author.Tests.{eqb-true, ne_eqb}
 use Rattle.cadence.specs.declared.Constellation.{Constellation}
@@ -43,7 +43,7 @@ length_range = pair _ (omega arith)
 
 -- ---- the code's table
 
--- the entries, all at once, are the rule's
+-- all its entries at once are the rule's
 pub table : LENGTHS ≡ map (λ c. map (length_of c) code_rates) constellations
 table = refl
 
@@ -59,38 +59,34 @@ at_column f ThreeQuarters = refl
 at_column f FiveSixths = refl
 at_column f SevenEighths = refl
 
--- and so is each, in its constellation's row and its code rate's column
+-- so the entry in a constellation's row and a code rate's column is its length; the 0 is that of no entry, and no length is 0
 pub entry : (c : Constellation) (r : CodeRate) → get_or (get_or LENGTHS (row_of c) []) (column_of r) 0 ≡ length_of c r
 entry c r =
     ap (λ (rows : List (List ℕ)). get_or (get_or rows (row_of c) []) (column_of r) 0) table
     ∙ ap (λ (xs : List ℕ). get_or xs (column_of r) 0) (at_row (λ c. map (length_of c) code_rates) c)
     ∙ at_column (length_of c) r
 
--- n stands in the table
+-- n is one of the entries
 abbrev pub in_table : ℕ → Bool
-in_table n = any_of LENGTHS (λ row. any_of row (eqb n))
+in_table n = list_any (eqb n) (flat_map (λ row. row) LENGTHS)
+
+in_row : (n : ℕ) (row : List ℕ) → list_any (eqb n) row ≡ any_of row (eqb n)
+in_row n [] = refl
+in_row n (x ∷ row) = ap (λ (b : Bool). eqb n x || b) (in_row n row)
+
+in_rows : (n : ℕ) (rows : List (List ℕ)) → list_any (eqb n) (flat_map (λ row. row) rows) ≡ any_of rows (λ row. any_of row (eqb n))
+in_rows n [] = refl
+in_rows n (row ∷ rows) =
+    list_any-append (eqb n) row (flat_map (λ row. row) rows) ∙ ap₂ (λ (p q : Bool). p || q) (in_row n row) (in_rows n rows)
 
 pub mega_frames : (n : ℕ) → is_mega_frame n ≡ in_table n
 unfolding is_mega_frame at_some_rate
-mega_frames n = ap (λ (rows : List (List ℕ)). any_of rows (λ row. any_of row (eqb n))) (sym table)
+mega_frames n = ap (λ (rows : List (List ℕ)). any_of rows (λ row. any_of row (eqb n))) (sym table) ∙ sym (in_rows n LENGTHS)
 
 -- which n a profile admits
 pub admitted : (profile n : ℕ) → admits profile n ≡ cond (eqb profile 1) (eqb n data_frame) (eqb profile 0 && in_table n)
 unfolding admits
 admitted profile n = ap (λ (b : Bool). cond (eqb profile 1) (eqb n data_frame) (eqb profile 0 && b)) (mega_frames n)
-
--- the same test of the rows' entries one after another
-in_row : (n : ℕ) (row : List ℕ) → list_any (λ x. eqb x n) row ≡ any_of row (eqb n)
-in_row n [] = refl
-in_row n (x ∷ row) = ap₂ (λ (p q : Bool). p || q) (nat_eq_equiv.symm x n) (in_row n row)
-
-in_rows : (n : ℕ) (rows : List (List ℕ)) → list_any (λ x. eqb x n) (flat_map (λ row. row) rows) ≡ any_of rows (λ row. any_of row (eqb n))
-in_rows n [] = refl
-in_rows n (row ∷ rows) =
-    list_any-append (λ x. eqb x n) row (flat_map (λ row. row) rows) ∙ ap₂ (λ (p q : Bool). p || q) (in_row n row) (in_rows n rows)
-
-pub contained : (n : ℕ) → list_any (λ x. eqb x n) (flat_map (λ row. row) LENGTHS) ≡ is_mega_frame n
-contained n = in_rows n LENGTHS ∙ sym (mega_frames n)
 
 -- ---- profile 0 admits these lengths, and no other
 
@@ -111,8 +107,8 @@ pub admitted_length : (n : ℕ) → admits 0 n ≡ true → (c : Constellation) 
 unfolding admits is_mega_frame at_some_rate
 admitted_length n e =
     let row = found constellations (at_some_rate n) e in
-    let entry = found code_rates (λ r. eqb n (length_of row.0 r)) row.1 in
-    (row.0, entry.0, eqb-true n (length_of row.0 entry.0) entry.1)
+    let column = found code_rates (λ r. eqb n (length_of row.0 r)) row.1 in
+    (row.0, column.0, eqb-true n (length_of row.0 column.0) column.1)
 
 -- ---- no other profile admits any
 

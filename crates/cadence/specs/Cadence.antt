@@ -41,7 +41,7 @@ constellations = Qpsk ∷ Qam16 ∷ Qam64 ∷ []
 abbrev pub code_rates : List CodeRate
 code_rates = Half ∷ TwoThirds ∷ ThreeQuarters ∷ FiveSixths ∷ SevenEighths ∷ []
 
--- the table of the lengths has a row for each constellation and a column for each code rate, in this order
+-- the row of a constellation and the column of a code rate, where the code's constant LENGTHS has the length (document 02, Paper 4)
 abbrev pub row_of : Constellation → ℕ
 row_of Qpsk = 0
 row_of Qam16 = 1

@@ -9,8 +9,8 @@ ghost use Rattle.cadence.specs.MobileFrame.{mobile_place};
 
 use wire::Refusal;
 
-// The packets of a mega-frame: twice the RS packets of a super-frame in 8K, eight times those of one in 2K (TS 101 191 clause 5).
-// Rows: QPSK, 16-QAM, 64-QAM. Columns: code rates 1/2, 2/3, 3/4, 5/6, 7/8.
+// The packets of a mega-frame, 2016 × v × r, one number for 8K and 2K: twice the Reed-Solomon packets of a super-frame in 8K, eight times those in 2K
+// (TS 101 191 clause 5; EN 300 744 subclause 4.7). Rows: QPSK, 16-QAM, 64-QAM. Columns: code rates 1/2, 2/3, 3/4, 5/6, 7/8.
 const LENGTHS: [[u16; 5]; 3] = [
     [2016, 2688, 3024, 3360, 3528],
     [4032, 5376, 6048, 6720, 7056],
@@ -29,6 +29,7 @@ pub enum Constellation {
 }
 
 impl Constellation {
+    // Its row, the variant's own number from 0. A cast by `as` is proved to lose nothing, here and below: `try_from` would have an answer that never comes.
     fn row(self) -> usize
         ensures { result ≡ row_of self }
     {
@@ -47,6 +48,7 @@ pub enum CodeRate {
 }
 
 impl CodeRate {
+    // Its column, likewise.
     fn column(self) -> usize
         ensures { result ≡ column_of self }
     {
@@ -65,7 +67,7 @@ pub fn length(c: Constellation, r: CodeRate) -> u16
 fn is_mega_frame(n: u16) -> bool
     ensures { result ≡ is_mega_frame n }
 {
-    LENGTHS.as_flattened().contains(&n)
+    LENGTHS.as_flattened().iter().any(|x| n == *x)
 }
 
 // Whether the profile has cadences of n packets. The profile is a number: C lends the slaves that have it, and any byte may stand there.
@@ -101,7 +103,7 @@ pub fn pointer_of(n: u16, label: u16) -> Result<u16, Refusal>
 // The marks of an M/H frame, whose indexes are below it.
 pub const FRAME_MARKS: u8 = 20;
 
-// The M/H place of the packet p after mark i. A cast by `as` is proved to lose nothing: `try_from` would have an answer that never comes.
+// The M/H place of the packet p after mark i.
 pub fn mobile_place(i: u8, p: u16) -> u16
     ensures { result ≡ mobile_place i p }
 {

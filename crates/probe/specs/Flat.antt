@@ -12,12 +12,13 @@ abbrev pub flat_settings : Reply Settings → ProbeSettings
 flat_settings (refused k) = record { number = k; od = pos 0; frequency = pos 0; power = 0 }
 flat_settings (given t) = record { number = 0; od = t.od; frequency = t.frequency; power = t.power }
 
+-- the length where there are both, else 0, which is no length
 abbrev pub length_at : Option Constellation → Option CodeRate → ℕ
 length_at (Some c) (Some r) = length_of c r
 length_at (Some c) None = 0
 length_at None r = 0
 
--- the length for the c-th constellation and the r-th code rate, and 0 where there is no such one
+-- the two by their places in the lists, from 0
 abbrev pub flat_length : ℕ → ℕ → ℕ
 flat_length c r = length_at (slice_get constellations c) (slice_get code_rates r)
 

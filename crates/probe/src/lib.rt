@@ -90,7 +90,7 @@ pub extern "C" fn probe_a110_delay_fits(md: u32, od: i16, tad: u32) -> bool
     Periods(md).delay_fits(od, Periods(tad))
 }
 
-// C has a constellation and a code rate by their places here.
+// C names a constellation and a code rate by its place in these lists, from 0.
 const CONSTELLATIONS: [Constellation; 3] = [
     Constellation::Qpsk,
     Constellation::Qam16,
@@ -109,7 +109,10 @@ const CODE_RATES: [CodeRate; 5] = [
 pub extern "C" fn probe_length(c: u8, r: u8) -> u16
     ensures { result ≡ flat_length c r }
 {
-    match (CONSTELLATIONS.get(usize::from(c)), CODE_RATES.get(usize::from(r))) {
+    match (
+        CONSTELLATIONS.get(usize::from(c)),
+        CODE_RATES.get(usize::from(r)),
+    ) {
         (Some(c), Some(r)) => cadence::length(*c, *r),
         _ => 0,
     }
