@@ -59,7 +59,7 @@ at_column f ThreeQuarters = refl
 at_column f FiveSixths = refl
 at_column f SevenEighths = refl
 
--- so the entry in a constellation's row and a code rate's column is its length; the 0 is that of no entry, and no length is 0
+-- so the entry in a constellation's row and a code rate's column is its length; 0 stands where there is no entry, and no length is 0
 pub entry : (c : Constellation) (r : CodeRate) → get_or (get_or LENGTHS (row_of c) []) (column_of r) 0 ≡ length_of c r
 entry c r =
     ap (λ (rows : List (List ℕ)). get_or (get_or rows (row_of c) []) (column_of r) 0) table
