@@ -279,7 +279,7 @@ pub fn length(constellation: u8, rate: u8) -> u16 {
         0 => (1, 2),
         1 => rule((2, 3), CodeRatesExchanged, (3, 4)),
         2 => rule((3, 4), CodeRatesExchanged, (2, 3)),
-        3 => (rule(5, CodeRateLost, 4), 6),
+        3 => (rule(5, CodeRateMistaken, 4), 6),
         4 => (7, 8),
         _ => return 0,
     };

@@ -73,7 +73,7 @@ faults! {
         LatenessZero: "the lateness is 0",
         TadInDvbDelay: "13 counts TAD in profile 0 too",
         A110DelayFromZero: "in profile 1, MD + OD + TAD may be 0",
-        CodeRateLost: "the code rate 5/6 is taken for 2/3",
+        CodeRateMistaken: "the code rate 5/6 is taken for 2/3",
         CodeRatesExchanged: "the cadences of the code rates 2/3 and 3/4 are exchanged",
         ConstellationsExchanged: "the cadences of 16-QAM and 64-QAM are exchanged",
         PointerOfN: "a pointer of n or more is taken for label 0",

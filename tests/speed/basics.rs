@@ -1,5 +1,5 @@
-//! The check value, notices, the settings of a site, and whether n is admitted: one table of nanoseconds a call and ratios. The times of a mark are the slave's: they are
-//! measured with its packets.
+//! The check value, notices, the settings of a site, and whether n is admitted: one table of nanoseconds a call and ratios. The times of a mark are
+//! the slave's: they are measured with its packets.
 
 use super::measure::{candidate, full_field, register_by_nibbles, table, INPUTS};
 use crate::bindings::answers::Reading;
