@@ -121,8 +121,10 @@ static void dvb_board(void)
 
     notice_packet(packet, 2014, 100000, 700000, offset, sizeof offset);
     feed_dvb(&slave, packet, 9950000);
-    number = vikombare_gap(&slave, 2014);
-    print_slave("gap of 2014", number, &slave);
+    number = vikombare_gap(&slave, 2013);
+    print_slave("gap of 2013", number, &slave);
+    /* The packet before the mark is lost too; the link card delivers an empty one. No tick is read. */
+    print_reply(vikombare_packet(&slave, packet, 0, vikombare_dvb_tick(steps(0))));
     feed_dvb(&slave, null, 500000);
     packet[24] ^= 1;
     feed_dvb(&slave, packet, 550000);

@@ -46,9 +46,10 @@ extern "C" {
 #endif
 
 /* The version of this interface. MAJOR rises where a program has to be changed or compiled anew, MINOR where it has not: something is added, or a call
- * gives another value. 2.1: a time that was a whole second is 0. 3.0: a late mark says how late it is, and its kind in which unit. */
+ * gives another value. 2.1: a time that was a whole second is 0. 3.0: a late mark says how late it is, and its kind in which unit. 3.1: to
+ * vikombare_packet, a packet of no bytes is one that was lost. */
 #define VIKOMBARE_VERSION_MAJOR 3
-#define VIKOMBARE_VERSION_MINOR 0
+#define VIKOMBARE_VERSION_MINOR 1
 
 /* An answer that must not be thrown away: it says what to do. The compiler warns where one is. */
 #if (defined(__cplusplus) && __cplusplus >= 201703L) || (defined(__STDC_VERSION__) && __STDC_VERSION__ >= 202311L)
@@ -62,7 +63,7 @@ extern "C" {
 /* The numbers that a call refuses with: the first that applies, in the order given at each call. The numbers are document 01's. */
 enum {
     VIKOMBARE_ACCEPTED = 0,
-    VIKOMBARE_REFUSED_LENGTH = 1,             /* the packet does not have 188 bytes */
+    VIKOMBARE_REFUSED_LENGTH = 1,             /* the packet does not have 188 bytes; vikombare_packet takes one of no bytes too: it was lost */
     VIKOMBARE_REFUSED_SYNC_BYTE = 2,          /* byte 0 of the packet is not 0x47 */
     VIKOMBARE_REFUSED_TICK = 3,               /* the arrival's count is a whole second of the slave's clock or more; for vikombare_packet, also a tick that
                                                  says the other clock */
@@ -286,8 +287,10 @@ VIKOMBARE_HOLDS(sizeof(vikombare_reading) == 32 && offsetof(vikombare_reading, n
 VIKOMBARE_KEEP uint8_t vikombare_dvb_start(vikombare_slave *slave, uint16_t n, uint16_t site, vikombare_steps tad);
 VIKOMBARE_KEEP uint8_t vikombare_a110_start(vikombare_slave *slave, uint16_t n, uint16_t site, vikombare_periods tad);
 
-/* Takes a packet with its arrival tick, and updates the slave in its own memory. Order: 15 (leaves the cold slave), 1, 2, 3 (each leaves the slave as
- * it was, and the packet does not count). Else the packet counts. In either profile a packet whose error indicator is set has its notice ignored with
+/* Takes a packet with its arrival tick, and updates the slave in its own memory. Order: 15 (leaves the cold slave), a length of 0, then 1, 2, 3 (each
+ * leaves the slave as it was, and the packet does not count). A length of 0, with any pointer that is not null, is what a link card delivers in the
+ * place of a packet that was lost. It does to the slave what vikombare_gap of 1 does, so tell a lost packet by one of them and not by both; the arrival
+ * is not read, and the reply has no label, notice, mark or place. Else the packet counts. In either profile a packet whose error indicator is set has its notice ignored with
  * 4, whatever its PID. Of the others, profile 0 reads those of PID 0x0015 as notices, which are taken or ignored with the first of 6 to 13; all else
  * is plain, and in profile 1 every packet is. A hunting slave has no label and no marks, and changes only when a notice is taken; its reply still has
  * the number that a notice is ignored with. A mark is released with the settings that were in force before a notice on the same packet. */
@@ -300,7 +303,7 @@ VIKOMBARE_KEEP vikombare_reply vikombare_numbers(vikombare_slave *slave, const u
                                                  vikombare_numbers_notice notice);
 
 /* Tells a locked slave that k packets were lost: it counts on, passes the marks among them, and drops a notice whose mark is among them. A hunting slave
- * is unchanged. Order: 15 (leaves the cold slave). */
+ * is unchanged. Order: 15 (leaves the cold slave). Behind a card that delivers an empty packet for each one lost, vikombare_packet tells the slave. */
 VIKOMBARE_KEEP uint8_t vikombare_gap(vikombare_slave *slave, uint16_t k);
 
 /* Saves the slave, which stays as it is, in the first 38 bytes of out; bytes after them are kept. Order: 15, 18; each keeps every byte of out. */

@@ -28,6 +28,9 @@ impl Subject for Runs {
         Fault::NewNoticeReleased,
         Fault::FirstNoticeStays,
         Fault::LateKept,
+        Fault::EmptyCounted,
+        Fault::EmptyUntold,
+        Fault::EmptyKeepsNotice,
         Fault::GapUncounted,
         Fault::GapOf16Bits,
         Fault::GapKeepsMark,
@@ -41,8 +44,9 @@ impl Subject for Runs {
     }
 }
 
-/// What 01's orders make of a call.
+/// What 01's orders make of a call, and 02's Paper 5 of an empty packet.
 enum Judged {
+    Lost,
     Kept(u8),
     Ignored(u8),
     Plain,
@@ -75,6 +79,9 @@ impl Book {
     fn judge(&self, packet: &[u8], tick: u32, numbers: Option<&Numbers>) -> Judged {
         let Adapter { profile, n, .. } = self.adapter;
         let second = self.adapter.second();
+        if packet.is_empty() && numbers.is_none() {
+            return Judged::Lost;
+        }
         if packet.len() != 188 {
             return Judged::Kept(1);
         }
@@ -205,7 +212,7 @@ impl Books {
         let (number, part) = match judged {
             Judged::Kept(number) => (number, (0, 0)),
             Judged::Ignored(number) => (0, (3, number)),
-            Judged::Plain => (0, (0, 0)),
+            Judged::Plain | Judged::Lost => (0, (0, 0)),
             Judged::Taken { .. } => (0, (1, 0)),
         };
         let given = (if reply.notice == 2 { 1 } else { reply.notice }, reply.ignored);
@@ -213,6 +220,16 @@ impl Books {
         if let Judged::Kept(number) = judged {
             saw("refused with", number.into());
             hold("a refused call's slave", outcome.slave, before)?;
+            return Ok(false);
+        }
+        if let Judged::Lost = judged {
+            // a gap of one: no place is counted, and nothing is in the reply
+            hold("an empty packet's label, mark and place", (reply.has_label, reply.mark.class(), reply.has_place), (false, 0, false))?;
+            if let Some(open) = &mut listener.book.open {
+                open.u -= 1;
+                saw("empty packet with tick U or more", i64::from(tick >= self.network.adapter.second()));
+                saw("empty packet on the mark", i64::from(step.place % u64::from(self.network.adapter.n) == 0));
+            }
             return Ok(false);
         }
         saw("ignored with", part.1.into());
@@ -337,6 +354,7 @@ impl Comparison<Runs> {
             7..=12 => adapter.to_notice(way.place),
             _ => 0,
         };
+        let first = way.place;
         way.place += lost;
         let mut told = match r.below(12) {
             0 | 1 if lost > 0 && lost % n == 0 => 0,
@@ -351,6 +369,15 @@ impl Comparison<Runs> {
             3 => std::mem::take(&mut way.owed) + lost,
             _ => lost,
         };
+        // few of them by a card's empty packets, each in the place of one
+        if told < 8 && self.random.one_in(2) {
+            for place in first..first + std::mem::take(&mut told) {
+                let r = &mut self.random;
+                let tick = any_tick(r, &books.listeners[who].slave);
+                let call = Call::Packet { form: r.pick(&[Form::InPlace, Form::ByValue]), packet: Lent::new(r, &[]), tick };
+                self.book_step(books, Step { who, place, call }, steps)?;
+            }
+        }
         while told > 0 || self.random.one_in(40) {
             let k = told.min(if self.random.one_in(4) { 1_000 } else { 65_535 });
             self.book_step(books, Step { who, place: way.place, call: Call::Gap(k as u16) }, steps)?;
@@ -391,6 +418,7 @@ impl Comparison<Runs> {
                     plain.into_iter().chain((*tick > 0).then_some(Call::Packet { form: *form, packet: packet.clone(), tick: 0 })).collect()
                 }
                 call @ Call::Gap(_) => simpler::simpler(call),
+                Call::Packet { packet, .. } if packet.bytes().is_empty() => vec![Call::Gap(1)],
                 _ => Vec::new(),
             };
             calls.into_iter().map(|call| Step { call, ..step.clone() }).collect()
@@ -474,6 +502,8 @@ fn required() -> Cases {
         (BOOK, "ignored with", vec![0, 4, 6, 7, 8, 9, 10, 11, 12, 13]),
         (BOOK, "packet in place (0), by value (1)", vec![0, 1]),
         (BOOK, "gap", vec![0, 1]),
+        (BOOK, "empty packet with tick U or more", vec![0, 1]),
+        (BOOK, "empty packet on the mark", vec![0, 1]),
         // 0 none; 1 a number that is no multiple of n, 2 one that is; negative where more was told than lost
         (BOOK, "untold elsewhere", vec![-1, 0, 1, 2]),
         (BOOK, "untold at a notice", vec![-1, 0, 1, 2]),

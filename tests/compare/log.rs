@@ -292,6 +292,7 @@ impl Comparison<Captures> {
             return Err(self.shortened_capture(&capture, how));
         }
         kinds(&ours, |what, value| self.saw("log", what, value));
+        self.saw("log", "cut to bytes", (capture.len().saturating_sub(SETTINGS) % RECORD) as i64);
         Ok(())
     }
 
@@ -330,6 +331,7 @@ fn required() -> Cases {
     vec![
         ("log", "refused alone with", vec![15]),
         ("log", "record refused with", vec![1, 2, 3]),
+        ("log", "cut to bytes", vec![1, 3, 4, 5, 191]),
         ("log", "of no record (0), of more than 1,024 (1)", vec![0, 1]),
         ("log", "notice none (0), taken (1), slip (2)", vec![0, 1, 2]),
         ("log", "hunting, ignored with", vec![4, 6, 7, 8, 9, 10, 11, 12, 13]),

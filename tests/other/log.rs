@@ -73,8 +73,12 @@ impl Log {
             }
             if !rule(false, CutSilent, true) {
                 number(out, self.records);
-                out.extend(b" refused ");
-                number(out, rule(1, CutFedToSlave, if record.get(4) == Some(&0x47) { 1 } else { 2 }));
+                if rule(false, CutTold, record.len() == 4) {
+                    out.extend(b" - - -");
+                } else {
+                    out.extend(b" refused ");
+                    number(out, rule(1, CutFedToSlave, if record.get(4) == Some(&0x47) { 1 } else { 2 }));
+                }
                 out.push(b'\n');
             }
             self.records += rule(1, CutUncounted, 0);

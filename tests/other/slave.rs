@@ -1,5 +1,5 @@
 //! The slave: start, packet, numbers notice and gap, and which slaves count as cold.
-//! From document 01, over the basics. An error is the number that refuses the whole call.
+//! From document 01 and document 02's Paper 5, over the basics. An error is the number that refuses the whole call.
 
 use super::basics::{self, second, Settings, Times, A110_SECOND, DVB_SECOND};
 use super::faults::{rule, Fault::*};
@@ -154,9 +154,15 @@ impl Slave {
         (self, reply)
     }
 
-    /// A packet, over a check register of the caller's choice. Numbers 15, 1, 2, 3 refuse the call; 4, 6 to 13 its notice.
+    /// A packet, over a check register of the caller's choice. Numbers 15, 1, 2, 3 refuse the call; 4, 6 to 13 its notice. An empty one stands for one that
+    /// was lost.
     pub fn packet_with(&mut self, register: impl Fn(&[u8]) -> u32, packet: &[u8], tick: u32) -> Result<Reply, u8> {
-        self.awake()?;
+        if rule(true, EmptyUnawake, !packet.is_empty()) {
+            self.awake()?;
+        }
+        if packet.is_empty() && rule(true, EmptyRefused, false) {
+            return self.lost(tick);
+        }
         let p = self.arrived(packet, tick)?;
         let pid = u16::from_be_bytes([p[1], p[2]]) & 0x1FFF;
         let error = p[1] & 0x80 != 0;
@@ -170,9 +176,36 @@ impl Slave {
         Ok(self.step(notice, tick))
     }
 
-    /// A packet with a tick of the other profile's clock, which is no tick of this slave's: 15, 1, 2 or else 3, by value.
+    /// A radio link card's empty packet: one packet more is missing, whatever the tick, and the reply has nothing in it (02, Paper 5).
+    fn lost(&mut self, tick: u32) -> Result<Reply, u8> {
+        if rule(false, EmptyTickJudged, tick >= second(self.profile)) {
+            return Err(3);
+        }
+        if rule(false, EmptyCounted, self.phase == LOCKED) {
+            return Ok(self.step(Ok(None), tick));
+        }
+        let on_mark = self.phase == LOCKED && self.next == 0;
+        let mark = rule(MarkPart::None, EmptyUntimed, if on_mark { MarkPart::Untimed } else { MarkPart::None });
+        let kept = *self;
+        if self.phase == LOCKED && rule(true, EmptyUntold, false) {
+            self.next = (self.next + 1) % self.n;
+            if on_mark {
+                self.clear();
+                self.raise(rule(1, EmptyKeepsIndex, 0));
+            }
+        }
+        if rule(false, EmptyKeepsNotice, true) {
+            (self.pending, self.sts, self.md) = (kept.pending, kept.sts, kept.md);
+        }
+        if rule(false, EmptyHunts, self.phase == LOCKED) {
+            *self = Slave::hunting(self.profile, self.n, self.site, self.tad);
+        }
+        Ok(Reply { label: None, notice: NoticePart::None, turn: false, mark, place: None })
+    }
+
+    /// A packet with a tick of the other profile's clock, which is no tick of this slave's: 15, 1, 2 or else 3, by value. An empty packet's is not read.
     pub fn foreign_packet(mut self, packet: &[u8], tick: u32) -> (Slave, Result<Reply, u8>) {
-        if rule(false, ForeignTickTaken, true) {
+        if rule(false, ForeignTickTaken, true) || packet.is_empty() && rule(true, EmptyForeign, false) {
             return self.packet_by_value(packet, tick);
         }
         let refused = self.awake().err().unwrap_or(match packet {
@@ -186,6 +219,9 @@ impl Slave {
     /// A numbers notice with its packet and tick, in place. Numbers 15, 1, 2, 3, 20 refuse the call; 4, 11 to 13 the notice.
     pub fn numbers(&mut self, packet: &[u8], tick: u32, numbers: &Numbers) -> Result<Reply, u8> {
         self.awake()?;
+        if packet.is_empty() && rule(false, EmptyOfNumbers, true) {
+            return self.lost(tick);
+        }
         let p = self.arrived(packet, tick)?;
         let error = p[1] & 0x80 != 0;
         if self.profile == 0 && rule(true, ErrorBeforeProfile, !error) {

@@ -1,6 +1,6 @@
 //! A slave's calls, and its saved block.
 
-use super::{notice, null, Vectors};
+use super::{notice, null, Packet, Vectors};
 use crate::inputs::streams::offset_entry;
 use crate::other::slave::{Numbers, Slave, COLD, LOCKED, UNKNOWN};
 
@@ -8,6 +8,7 @@ pub fn all(v: &mut Vectors) {
     starts(v);
     reckoned(v);
     refusals(v);
+    empty(v);
     steps(v);
     late(v);
     indexes(v);
@@ -77,7 +78,7 @@ fn refusals(v: &mut Vectors) {
         ("refusal 1: 187 bytes", plain.of_length(187), 5),
         ("189 bytes", plain.of_length(189), 5),
         ("187 bytes, 0x46, tick U", plain.with(&[(0, 0x46)]).of_length(187), 10_000_000),
-        ("no bytes", plain.of_length(0), 5),
+        ("1 byte, 0x46, tick U", plain.with(&[(0, 0x46)]).of_length(1), 10_000_000),
         ("refusal 2: 0x46", plain.with(&[(0, 0x46)]), 5),
         ("0x46, tick U", plain.with(&[(0, 0x46)]), 10_000_000),
         ("refusal 3: tick U", plain.clone(), 10_000_000),
@@ -135,6 +136,31 @@ fn refusals(v: &mut Vectors) {
         v.hand(name, cold);
         v.numbers(&format!("15 before 1 and 12: {name}"), &plain.of_length(0), 5, Numbers { index: 20, ..numbers });
     }
+}
+
+/// An empty packet in the place of one that was lost, for each kind of slave; a numbers notice has none.
+fn empty(v: &mut Vectors) {
+    let (null, none) = (null(), Packet { text: String::from("no bytes"), bytes: Vec::new() });
+    v.start("behind a card", 0, 2016, 7, 0);
+    v.packet("an empty packet, hunting", &none, 10_000_000);
+    v.packet("three packets before the mark", &notice(3, 9_500_000, 700_000, &[]), 5);
+    v.packet("the first is lost", &none, u32::MAX);
+    v.packet("the second has its label", &null, 5);
+    v.packet("the third is lost", &none, 5);
+    v.packet("the mark comes in time", &null, 9_900_000);
+    v.packet("a notice behind the mark", &notice(2014, 1, 700_000, &[]), 5);
+    v.packet("and an empty packet", &none, 5);
+    v.packet("the next notice is no slip", &notice(2012, 2, 700_000, &[]), 5);
+    let numbers = Numbers { pointer: 0, sts: 1, md: 2, od: 0, index: UNKNOWN };
+    v.numbers("1 before 3 and 20: a numbers notice with no bytes", &none, 10_000_000, numbers);
+    v.gap("up to the mark", 2012);
+    v.packet("the mark is lost", &none, 9_900_000);
+    v.packet("the packet behind it has label 1", &null, 5);
+    v.start("behind a card, profile 1", 1, 624, 7, 0);
+    v.numbers("of index 19", &null, 5, Numbers { index: 19, ..numbers });
+    v.packet("mark 19 is lost", &none, 19_392_658);
+    v.packet("the packet behind it has its place", &null, 5);
+    v.numbers("1 before 3 and 11: no bytes, profile 1", &none, 19_392_658, Numbers { sts: u32::MAX, ..numbers });
 }
 
 fn steps(v: &mut Vectors) {

@@ -21,10 +21,10 @@ use Rattle.notice.specs.Mip.{error_indicator, addressing_field}
 use Rattle.notice.specs.Reader.{section_refusal}
 use Rattle.state.specs.Sound.{frequency_fits, index_fits}
 use Rattle.state.specs.declared.Board.{Board}
-use Rattle.judging.specs.Judge.{unless_refused, unless_ignored, arrival_refusal, carries, taken_refusal, limited, mip_taken, judge_field, judge_mip, judge_arrived, judge_packet, numbers_taken, judge_given, judge_numbers}
+use Rattle.judging.specs.Judge.{unless_refused, unless_ignored, is_empty, arrival_refusal, carries, taken_refusal, limited, mip_taken, judge_field, judge_mip, judge_arrived, judge_packet, numbers_taken, judge_given, judge_numbers}
 use Rattle.judging.specs.declared.Numbers.{Numbers}
 use Rattle.judging.specs.declared.Taken.{Taken}
-use Rattle.judging.specs.Judgement.{Judgement, Refuse, Counts, Takes}
+use Rattle.judging.specs.Judgement.{Judgement, Lost, Refuse, Counts, Takes}
 use Rattle.judging.proofs.Judging.{Limits, limits_kept}
 
 -- ---- frequency and power do not matter
@@ -35,6 +35,7 @@ set_to x t = record { pointer = x.pointer; index = x.index; settings = t; sts = 
 
 -- two judgements that differ in frequency and power alone
 pub data Alike : Judgement → Judgement → Type 0 where
+  lost_alike : Alike Lost Lost
   refused_alike : {k : ℕ} → Alike (Refuse k) (Refuse k)
   counted_alike : {k : ℕ} → Alike (Counts k) (Counts k)
   taken_alike : (x : Taken) (t u : Settings) → OneOd t u → Alike (Takes (set_to x t)) (Takes (set_to x u))
@@ -66,14 +67,16 @@ module _ (b : Board) (t u : Settings) (e : OneOd t u) (p : List ℕ) (tick : ℕ
   pub packet_alike : Alike (judge_packet b t p tick) (judge_packet b u p tick)
   unfolding judge_arrived judge_mip
   packet_alike =
-      unless_alike (arrival_refusal b.profile p tick)
+      pair Alike (is_empty p)
+      lost_alike
+      (unless_alike (arrival_refusal b.profile p tick)
       (pair Alike (eqb (error_indicator p) 0)
       (pair Alike (carries b.profile p)
       (ignored_alike (section_refusal p)
       (field_alike b p (settings_of (addressing_field p) b.site t) (settings_of (addressing_field p) b.site u)
       (settings_both OneOd od_kept (addressing_field p) b.site t u e)))
       counted_alike)
-      counted_alike)
+      counted_alike))
 
   pub numbers_alike : (x : Numbers) → Alike (judge_numbers b t p tick x) (judge_numbers b u p tick x)
   unfolding judge_given
@@ -89,6 +92,7 @@ module _ (b : Board) (t u : Settings) (e : OneOd t u) (p : List ℕ) (tick : ℕ
 
 -- whatever a judgement takes has P
 abbrev pub IfTaken : (Taken → Type 0) → Judgement → Type 0
+IfTaken P Lost = Unit {0}
 IfTaken P (Refuse k) = Unit {0}
 IfTaken P (Counts k) = Unit {0}
 IfTaken P (Takes x) = P x
@@ -142,13 +146,15 @@ module _ (b : Board) where
     pub packet_fit : IfTaken (Fit b) (judge_packet b t p tick)
     unfolding judge_arrived judge_mip
     packet_fit =
-        if_unrefused (Fit b) (arrival_refusal b.profile p tick) _
+        pick (IfTaken (Fit b)) (is_empty p) _ _
+        tt
+        (if_unrefused (Fit b) (arrival_refusal b.profile p tick) _
         (pick (IfTaken (Fit b)) (eqb (error_indicator p) 0) _ _
         (pick (IfTaken (Fit b)) (carries b.profile p) _ _
         (if_unignored (Fit b) (section_refusal p) _
         (λ e. field_fit p (settings_of (addressing_field p) b.site t) (settings_both InBits bits_kept (addressing_field p) b.site t t f)))
         tt)
-        tt)
+        tt))
 
     pub numbers_fit : admits b.profile b.n ≡ true → (x : Numbers) → IfTaken (Fit b) (judge_numbers b t p tick x)
     unfolding judge_given index_fits

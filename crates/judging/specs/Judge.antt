@@ -14,7 +14,7 @@ use Rattle.state.specs.Slave.{unknown}
 use Rattle.state.specs.declared.Board.{Board}
 use Rattle.judging.specs.declared.Numbers.{Numbers}
 use Rattle.judging.specs.declared.Taken.{Taken}
-use Rattle.judging.specs.Judgement.{Judgement, Refuse, Counts, Takes}
+use Rattle.judging.specs.Judgement.{Judgement, Lost, Refuse, Counts, Takes}
 
 -- a number of K refuses, else what follows
 abbrev pub unless_refused : ℕ → Judgement → Judgement
@@ -25,6 +25,10 @@ unless_refused (suc k) j = Refuse (suc k)
 abbrev pub unless_ignored : ℕ → Judgement → Judgement
 unless_ignored zero j = j
 unless_ignored (suc k) j = Counts (suc k)
+
+-- an empty packet: no bytes at all
+abbrev pub is_empty : List ℕ → Bool
+is_empty p = eqb (length p) 0
 
 -- 1, 2, 3, of any packet with its arrival tick
 unfoldable pub arrival_refusal : ℕ → List ℕ → ℕ → ℕ
@@ -69,9 +73,9 @@ judge_mip b t p = unless_ignored (section_refusal p) (judge_field b p (settings_
 unfoldable pub judge_arrived : Board → Settings → List ℕ → Judgement
 judge_arrived b t p = cond (eqb (error_indicator p) 0) (cond (carries b.profile p) (judge_mip b t p) (Counts 0)) (Counts 4)
 
--- a packet: 1, 2, 3, then 4 and 6 to 13
+-- a packet: an empty one was lost, whatever its tick (document 02, Paper 5). Any other: 1, 2, 3, then 4 and 6 to 13
 abbrev pub judge_packet : Board → Settings → List ℕ → ℕ → Judgement
-judge_packet b t p tick = unless_refused (arrival_refusal b.profile p tick) (judge_arrived b t p)
+judge_packet b t p tick = cond (is_empty p) Lost (unless_refused (arrival_refusal b.profile p tick) (judge_arrived b t p))
 
 -- what a numbers notice gives; frequency and power stay
 abbrev pub numbers_taken : Settings → Numbers → Taken

@@ -5,6 +5,7 @@ use Rattle.wire.specs.Reply.{refusal_number}
 use Rattle.judging.specs.declared.Taken.{Taken}
 
 pub data Judgement : Type 0 where
+  Lost : Judgement  -- an empty packet, in the place of one that was lost
   Refuse : ℕ → Judgement  -- a number of K refuses the call
   Counts : ℕ → Judgement  -- it counts, and a number of C ignores its notice; 0: it carries none
   Takes : Taken → Judgement  -- it counts, and its notice is taken

@@ -10,8 +10,8 @@ use Rattle.state.specs.declared.Slave.{Slave}
 use Rattle.state.specs.Profile.{second, settings_kept}
 use Rattle.state.specs.Sound.{is_zero, is_nothing, is_unset, is_uncounted, hunting_fits, parts_fit, sound}
 use Rattle.judging.specs.Judge.{arrival_refusal, carries, judge_arrived}
-use Rattle.slave.specs.Step.{unheard, counted, step_of}
-use Rattle.slave.specs.Calls.{start_of, packet_of}
+use Rattle.slave.specs.Step.{unheard, counted}
+use Rattle.slave.specs.Calls.{step_of, start_of, packet_of}
 use Rattle.text.specs.Decimal.{decimal_in, decimal}
 use Rattle.text.specs.Rooms.{line_room}
 use Rattle.text.specs.Line.{line_of, site_line, end_line}

@@ -22,9 +22,9 @@ use Rattle.state.specs.declared.Board.{Board}
 use Rattle.state.specs.declared.Slave.{Slave}
 use Rattle.judging.specs.Judge.{arrival_refusal, carries, taken_refusal, limited, judge_mip, judge_arrived, judge_given}
 use Rattle.slave.specs.Answer.{Notice, absent, taken, slip, ignored, Mark, unmarked, untimed, due, Report, label_in, notice_in}
-use Rattle.slave.specs.Step.{release_at, mark_at, passed, unheard, counted, mark_taken, notice_taken, took, step_of}
+use Rattle.slave.specs.Step.{release_at, mark_at, passed, unheard, counted, mark_taken, notice_taken, took}
 use Rattle.slave.specs.Gap.{gapped}
-use Rattle.slave.specs.Calls.{start_of, packet_of, numbers_of, gap_of}
+use Rattle.slave.specs.Calls.{step_of, start_of, packet_of, numbers_of, gap_of}
 use Rattle.run.specs.Adapter.{Adapter}
 use Rattle.run.specs.Book.{by_value, in_place, Arrival, packet, numbers, Call, at, gap, judged, Book, closed, verdict_at, untold, count_place, tell_gap, enter, enter_call, book_after}
 use Rattle.run.specs.Run.{hear, leave, slave_after, begun, places, Run}

@@ -22,10 +22,11 @@ use Rattle.state.specs.declared.Waiting.{Waiting}
 use Rattle.state.specs.declared.Slave.{Slave}
 use Rattle.judging.specs.declared.Taken.{Taken}
 use Rattle.judging.specs.Judgement.{Judgement}
-use Rattle.judging.proofs.Taking.{set_to, Alike, refused_alike, counted_alike, taken_alike}
+use Rattle.judging.proofs.Taking.{set_to, Alike, lost_alike, refused_alike, counted_alike, taken_alike}
 use Rattle.slave.specs.Answer.{Notice, taken, slip}
-use Rattle.slave.specs.Step.{passed, unheard, notice_by, counted, notice_taken, took, step_of}
+use Rattle.slave.specs.Step.{passed, unheard, notice_by, counted, notice_taken, took}
 use Rattle.slave.specs.Gap.{to_mark, gapped}
+use Rattle.slave.specs.Calls.{step_of}
 use Rattle.slave.proofs.Due.{OwnDue, unmarked_apart, own_due, taken_due}
 use Rattle.run.specs.Adapter.{Announced, Adapter, Wrote}
 use Rattle.run.specs.Book.{Book, closed, opened, untold, count_place, tell_gap, enter}
@@ -225,15 +226,16 @@ module _ (A : Adapter) (s : Slave) (some-n : 0 < s.board.n) where
       )
   counted_follows (opened last u told od) f k t tick = rw f.locked (passed_follows last u f t told od (notice_by k) tick)
 
-  -- the slave's own judgement j and the book's verdict v
-  pub step_follows : (b : Book) → Follows A b s → {j v : Judgement} → Alike j v → (t tick : ℕ) → Genuine n A t v
-      → RightReply s.board A b t v (step_of s j tick).reply × Follows A (enter b t v) (step_of s j tick).slave
-  unfolding step_of enter
-  step_follows b f refused_alike t tick w = (refl, f)
-  step_follows b f (counted_alike {k = k}) t tick w = counted_follows b f k t tick
-  step_follows b f (taken_alike x y z e) t tick w = (took_right (set_to x y) t w b f tick, took_tracks (set_to x y) t w tick)
-
   pub gap_follows : (b : Book) → Follows A b s → (k : ℕ) → Follows A (tell_gap b k) (gapped s k)
   unfolding tell_gap gapped
   gap_follows closed f k = rw f f
   gap_follows (opened last u told od) f k = gap_tracks last u f k
+
+  -- the slave's own judgement j and the book's verdict v
+  pub step_follows : (b : Book) → Follows A b s → {j v : Judgement} → Alike j v → (t tick : ℕ) → Genuine n A t v
+      → RightReply s.board A b t v (step_of s j tick).reply × Follows A (enter b t v) (step_of s j tick).slave
+  unfolding step_of enter
+  step_follows b f lost_alike t tick w = (refl, gap_follows b f 1)
+  step_follows b f refused_alike t tick w = (refl, f)
+  step_follows b f (counted_alike {k = k}) t tick w = counted_follows b f k t tick
+  step_follows b f (taken_alike x y z e) t tick w = (took_right (set_to x y) t w b f tick, took_tracks (set_to x y) t w tick)

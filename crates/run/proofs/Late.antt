@@ -8,21 +8,23 @@ use Rattle.times.specs.Release.{Due, late}
 use Rattle.times.proofs.Laws.{longer_late, longer_released, longer_waits}
 use Rattle.state.specs.Sound.{sound}
 use Rattle.state.specs.declared.Slave.{Slave}
-use Rattle.judging.specs.Judgement.{Judgement, Refuse, Counts, Takes}
+use Rattle.judging.specs.Judgement.{Judgement, Lost, Refuse, Counts, Takes}
 use Rattle.slave.specs.Answer.{due, mark_in, Report, Result}
-use Rattle.slave.specs.Step.{took, step_of}
-use Rattle.slave.proofs.Due.{unmarked_apart, OwnDue, packet_due, numbers_due}
+use Rattle.slave.specs.Step.{took}
+use Rattle.slave.specs.Calls.{step_of}
+use Rattle.slave.proofs.Due.{unmarked_apart, OwnDue}
 use Rattle.slave.proofs.Longer.{longer_in, counted_longer, gapped_longer, due_longer, counted_mark, taken_mark}
-use Rattle.run.specs.Book.{Arrival, packet, numbers, tick_of, Call, at, gap}
+use Rattle.run.specs.Book.{Arrival, tick_of, Call, at, gap}
 use Rattle.run.specs.Run.{hear, leave, slave_after}
 use Rattle.run.specs.Late.{judged_by, takes, longer, TakesNone, NoneTaken, Lengthened, mark_behind, Held, Mended}
 use Rattle.run.proofs.Steps.{moved}
-use Rattle.run.proofs.Run.{heard, left_by, leave_sound}
+use Rattle.run.proofs.Run.{heard, left_by, leave_sound, heard_due}
 
 module _ (y : ℕ) where
   -- ---- a slave, and the same with a longer MD: a call that takes no notice leaves them so, and a list of them
   step_left : (s : Slave) (tick : ℕ) (j : Judgement) → takes j ≡ false → (step_of (longer_in y s) j tick).slave ≡ longer_in y (step_of s j tick).slave
   unfolding step_of
+  step_left s tick Lost e = gapped_longer y s 1
   step_left s tick (Refuse k) e = refl
   step_left s tick (Counts k) e = counted_longer y s k tick
   step_left s tick (Takes x) e = absurd cc
@@ -55,6 +57,7 @@ module _ (y : ℕ) where
   -- ---- a notice that is taken leaves them so
   took_longer : (s : Slave) (j : Judgement) (t t' : ℕ) → takes j ≡ true → (step_of s (longer y j) t').slave ≡ longer_in y (step_of s j t).slave
   unfolding step_of took
+  took_longer s Lost t t' e = absurd cc
   took_longer s (Refuse k) t t' e = absurd cc
   took_longer s (Counts k) t t' e = absurd cc
   took_longer s (Takes x) t t' e = refl
@@ -64,6 +67,7 @@ module _ (y : ℕ) where
       (s : Slave) (tick profile : ℕ) (d : Due) → OwnDue s tick profile d → (z : ℕ) (j : Judgement) → mark_in (step_of s j tick).reply ≡ due profile d
       → mark_in (step_of (longer_in y s) (longer z j) tick).reply ≡ due profile (due_longer y s tick)
   unfolding step_of
+  step_longer s tick profile d o z Lost e = absurd (unmarked_apart profile d e)
   step_longer s tick profile d o z (Refuse k) e = absurd (unmarked_apart profile d e)
   step_longer s tick profile d o z (Counts k) e = counted_mark y s tick profile d o k
   step_longer s tick profile d o z (Takes x) e = taken_mark y s tick profile d o x (x.md + z) e
@@ -88,13 +92,8 @@ module _ (y : ℕ) where
     w = calls_left (hear s a).slave (hear s a').slave at_once behind l.none_behind
 
     module _ (profile x : ℕ) (answer : mark_behind s a behind b ≡ due profile (late x)) where
-      own : (c : Arrival) → mark_in (hear one c).reply ≡ due profile (late x) → OwnDue one (tick_of c) profile (late x)
-      unfolding hear
-      own (packet form p tick) e = (packet_due one tick profile (late x) p e).own
-      own (numbers p tick z) e = (numbers_due one tick profile (late x) p z e).own
-
       o : OwnDue one (tick_of b) profile (late x)
-      o = own b answer
+      o = heard_due one b profile (late x) answer
 
       other_mark : mark_behind s a' behind b' ≡ due profile (due_longer y one (tick_of b))
       other_mark =

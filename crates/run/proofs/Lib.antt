@@ -4,5 +4,6 @@ pub mod Follow
 pub mod Steps
 pub mod Run
 pub mod Sentences
+pub mod Card
 pub mod Late
 pub mod Examples

@@ -26,7 +26,7 @@ module _ (g : Board) (A : Adapter) (b : Book) (t : ℕ) (r : Reply Report) {labe
   has_label : label_in r ≡ label
   has_label = ap label_in k.counted ∙ k.labelled
 
-  has_notice : notice_in r ≡ notice
+  pub has_notice : notice_in r ≡ notice
   has_notice = ap notice_in k.counted ∙ k.noticed
 
 -- a slip is a choice that was not "taken"

@@ -1,6 +1,7 @@
 -- Demand 3 for the steps of a slave and any cadence of n packets: a hunting slave that is handed call after call follows the book.
 -- That counted places rise is not needed: u is signed.
 use mathlib.Core.Path.{◌≡◌, refl, subst}
+use mathlib.Core.Bool.{false}
 use mathlib.Core.List.{List, [], ◌∷◌, ◌++◌}
 use Prim.Native.Nat.{ℕ, ◌<◌}
 use lib.Dec.{eqb}
@@ -9,10 +10,11 @@ use Rattle.state.specs.Slave.{hunting}
 use Rattle.state.specs.declared.Board.{Board}
 use Rattle.state.specs.declared.Slave.{Slave}
 use Rattle.judging.specs.Judgement.{Judgement}
-use Rattle.judging.proofs.Taking.{Alike, refused_alike, counted_alike, taken_alike, packet_alike, numbers_alike}
+use Rattle.judging.proofs.Taking.{Alike, lost_alike, refused_alike, counted_alike, taken_alike, packet_alike, numbers_alike}
 use Rattle.slave.specs.Answer.{Report, Result}
-use Rattle.slave.specs.Step.{counted, passed, unheard, took, step_of}
+use Rattle.slave.specs.Step.{counted, passed, unheard, took}
 use Rattle.slave.specs.Gap.{gapped}
+use Rattle.slave.specs.Calls.{step_of}
 use Rattle.slave.proofs.Sound.{step_board, gap_board}
 use Rattle.run.specs.Adapter.{Adapter}
 use Rattle.run.specs.Book.{Arrival, packet, numbers, tick_of, Call, at, gap, judged, Book, closed, opened, od_of, verdict_at, count_place, tell_gap, enter, enter_call, book_after}
@@ -43,16 +45,17 @@ unfolding count_place
 place_od closed t = refl
 place_od (opened last u told od) t = refl
 
-step_od : (s : Slave) (b : Book) {j v : Judgement} → Alike j v → (t tick : ℕ) → InForce b s → InForce (enter b t v) (step_of s j tick).slave
-unfolding step_of took enter counted passed unheard
-step_od s b refused_alike t tick e = e
-step_od s b counted_alike t tick e = rw place_od (pick (λ (r : Result Report). r.slave.settings.od ≡ od_of b) (eqb s.count.phase 2) _ _ e e)
-step_od s b (taken_alike x y z o) t tick e = o
-
 gap_od : (s : Slave) (b : Book) (k : ℕ) → InForce b s → InForce (tell_gap b k) (gapped s k)
 unfolding gapped tell_gap
 gap_od s closed k e = pick (InForce closed) (eqb s.count.phase 2) _ _ e e
 gap_od s (opened last u told od) k e = pick (InForce (opened last u told od)) (eqb s.count.phase 2) _ _ e e
+
+step_od : (s : Slave) (b : Book) {j v : Judgement} → Alike j v → (t tick : ℕ) → InForce b s → InForce (enter b t v) (step_of s j tick).slave
+unfolding step_of took enter counted passed unheard
+step_od s b lost_alike t tick e = gap_od s b 1 e
+step_od s b refused_alike t tick e = e
+step_od s b counted_alike t tick e = rw place_od (pick (λ (r : Result Report). r.slave.settings.od ≡ od_of b) (eqb s.count.phase 2) _ _ e e)
+step_od s b (taken_alike x y z o) t tick e = o
 
 -- so the slave's judgement is the book's verdict
 verdict_own : (s : Slave) (b : Book) (a : Arrival) → InForce b s → Alike (judged s.board s.settings a) (verdict_at s.board b a)
@@ -109,3 +112,8 @@ module _ (g : Board) (A : Adapter) (some : 0 < g.n) where
   any_cadence before after c w =
       let r = reached before (c ∷ after) w in
       (step_holds (book_after g closed before) _ r.0 c r.1.0).0
+
+  -- and while the book is closed the slave hunts
+  pub hunts_before : (before after : List Call) → AllGenuine g A closed (before ++ after) → book_after g closed before ≡ closed
+      → eqb (moves (hunting g) before).count.phase 2 ≡ false
+  hunts_before before after w e = subst (λ (b : Book). Follows A b (moves (hunting g) before)) e (reached before after w).0.follows

@@ -4,7 +4,7 @@ use Rattle.addressing.specs.declared.Settings.{Settings}
 use Rattle.state.specs.Sound.{is_zero}
 use Rattle.state.specs.declared.Board.{Board}
 use Rattle.judging.specs.Judge.{judge_packet, judge_numbers}
-use Rattle.judging.specs.Judgement.{Judgement, Refuse, Counts, Takes}
+use Rattle.judging.specs.Judgement.{Judgement, Lost, Refuse, Counts, Takes}
 use Rattle.judging.specs.declared.Numbers.{Numbers}
 
 -- ---- the calls
@@ -63,8 +63,9 @@ unfoldable pub tell_gap : Book → ℕ → Book
 tell_gap closed k = closed
 tell_gap (opened s u told od) k = opened s (u -ℤ pos k) told od
 
--- a place, by its verdict
+-- a place, by its verdict; an empty packet is a gap of one, and counts no place (document 02, Paper 5)
 unfoldable pub enter : Book → ℕ → Judgement → Book
+enter b t Lost = tell_gap b 1
 enter b t (Refuse k) = b
 enter b t (Counts k) = count_place b t
 enter b t (Takes x) = opened t (pos 0) true x.settings.od

@@ -9,9 +9,9 @@ use Rattle.state.specs.Profile.{second}
 use Rattle.state.specs.Sound.{is_zero, sound}
 use Rattle.state.specs.declared.Board.{Board}
 use Rattle.state.specs.declared.Slave.{Slave}
-use Rattle.judging.specs.Judgement.{Judgement, Refuse, Counts, Takes}
-use Rattle.slave.specs.Answer.{Notice, taken, slip, due, Report}
-use Rattle.slave.specs.Step.{notice_by}
+use Rattle.judging.specs.Judgement.{Judgement, Lost, Refuse, Counts, Takes}
+use Rattle.slave.specs.Answer.{Notice, absent, taken, slip, due, Report}
+use Rattle.slave.specs.Step.{unheard_report, notice_by}
 use Rattle.slave.specs.Calls.{gap_of}
 use Rattle.run.specs.Adapter.{Announced, Adapter}
 use Rattle.run.specs.Book.{Arrival, Call, at, gap, Book, closed, opened, verdict_at, untold, book_after}
@@ -54,8 +54,9 @@ pub record Right (g : Board) (A : Adapter) (b : Book) (t : ℕ) (label : Option 
   pub timed : (x : Times) → report.mark ≡ due g.profile (released x) → told_exactly b t ≡ true
       → Timed g.n (second g.profile) A t x.reference
 
--- by the verdict; a number of K is the whole reply
+-- by the verdict; an empty packet has a reply with nothing in it, and a number of K is the whole reply
 abbrev pub RightReply : Board → Adapter → Book → ℕ → Judgement → Reply Report → Type 0
+RightReply g A b t Lost r = r ≡ given (unheard_report absent)
 RightReply g A b t (Refuse k) r = r ≡ refused k
 RightReply g A b t (Counts k) r = Right g A b t (label_by g.n b t) (notice_by k) r
 RightReply g A b t (Takes x) r = Right g A b t (some (label_at g.n t)) (slip_by g.n b t) r
@@ -74,7 +75,7 @@ pub record Followed (g : Board) (A : Adapter) (calls : List Call) : Type 0 where
   pub answers : (before after : List Call) (c : Call) → calls ≡ before ++ c ∷ after
       → RightCall g A (book_after g closed before) (slave_after (begun g) before) c
 
--- a mark released at place t with these times, in the unit of this profile, all losses since the last notice taken told exactly
+-- a mark released at place t with these times, in the unit of this profile
 pub record ReleasedAt (g : Board) (calls : List Call) (t profile : ℕ) (x : Times) : Type 0 where
   pub before : List Call
   pub after : List Call
@@ -83,13 +84,21 @@ pub record ReleasedAt (g : Board) (calls : List Call) (t profile : ℕ) (x : Tim
   pub report : Report
   pub counted : (hear (slave_after (begun g) before) arrival).reply ≡ given report
   pub mark : report.mark ≡ due profile (released x)
-  pub exact : told_exactly (book_after g closed before) t ≡ true
 
--- any two slaves of one profile and cadence on the adapter's stream give one reference time, in one unit, to each mark that both release
+-- one in a run on the adapter's stream, all losses since the last notice taken told exactly
+pub record ReleasedTold (A : Adapter) (g : Board) (calls : List Call) (t profile : ℕ) (x : Times) : Type 0 where
+  pub run : Run g A calls
+  pub release : ReleasedAt g calls t profile x
+  pub exact : told_exactly (book_after g closed release.before) t ≡ true
+
+-- of such marks, one that any two slaves of one profile and cadence both release has one reference time, in one unit
+abbrev pub OneTimeOf : ((g : Board) (calls : List Call) (t profile : ℕ) → Times → Type 0) → Type 0
+OneTimeOf Marked =
+    (g h : Board) (calls others : List Call) → g.profile ≡ h.profile → g.n ≡ h.n
+    → (t p q : ℕ) (x y : Times) → Marked g calls t p x → Marked h others t q y → (p ≡ q) × (x.reference ≡ y.reference)
+
 abbrev pub OneTime : Adapter → Type 0
-OneTime A =
-    (g h : Board) (calls others : List Call) → g.profile ≡ h.profile → g.n ≡ h.n → Run g A calls → Run h A others
-    → (t p q : ℕ) (x y : Times) → ReleasedAt g calls t p x → ReleasedAt h others t q y → (p ≡ q) × (x.reference ≡ y.reference)
+OneTime A = OneTimeOf (ReleasedTold A)
 
 -- every run on the adapter's stream, and any two
 pub record Demand3 (A : Adapter) : Type 0 where

@@ -3,7 +3,7 @@ use Rattle.std.specs.Prelude.{ℕ, ◌+◌, ◌-◌, ◌<◌, ◌≡◌, Bool, t
 use Rattle.times.specs.Release.{Times, late, released}
 use Rattle.state.specs.Sound.{sound}
 use Rattle.state.specs.declared.Slave.{Slave}
-use Rattle.judging.specs.Judgement.{Judgement, Refuse, Counts, Takes}
+use Rattle.judging.specs.Judgement.{Judgement, Lost, Refuse, Counts, Takes}
 use Rattle.slave.specs.Answer.{Mark, due, mark_in}
 use Rattle.run.specs.Book.{Arrival, tick_of, Call, at, gap, judged}
 use Rattle.run.specs.Run.{hear, leave, slave_after}
@@ -13,12 +13,14 @@ abbrev pub judged_by : Slave → Arrival → Judgement
 judged_by s a = judged s.board s.settings a
 
 abbrev pub takes : Judgement → Bool
+takes Lost = false
 takes (Refuse k) = false
 takes (Counts k) = false
 takes (Takes x) = true
 
 -- the same judgement of a notice with MD longer by y; where none is taken it stays
 abbrev pub longer : ℕ → Judgement → Judgement
+longer y Lost = Lost
 longer y (Refuse k) = Refuse k
 longer y (Counts k) = Counts k
 longer y (Takes x) = Takes (record x { md = x.md + y })

@@ -4,4 +4,5 @@ pub mod Book
 pub mod Run
 pub mod Claim
 pub mod Sentences
+pub mod Card
 pub mod Late

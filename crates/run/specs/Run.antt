@@ -3,7 +3,7 @@ use Rattle.std.specs.Prelude.{ℕ, suc, ◌≤◌, ◌≡◌, true, List, [], �
 use Rattle.state.specs.Profile.{settings_kept}
 use Rattle.state.specs.declared.Board.{Board}
 use Rattle.state.specs.declared.Slave.{Slave}
-use Rattle.judging.specs.Judgement.{Judgement, Refuse, Counts, Takes}
+use Rattle.judging.specs.Judgement.{Judgement, Lost, Refuse, Counts, Takes}
 use Rattle.slave.specs.Answer.{Report, Result}
 use Rattle.slave.specs.Calls.{start_of, packet_of, numbers_of, gap_of}
 use Rattle.run.specs.Adapter.{Adapter, Wrote}
@@ -30,8 +30,9 @@ begun g = (start_of g).slave
 
 -- ---- what is asked of a run
 
--- the places that the calls count: all but K refusals
+-- the places that the calls count: all but K refusals and empty packets
 abbrev pub counting : Judgement → ℕ → List ℕ → List ℕ
+counting Lost t ts = ts
 counting (Refuse k) t ts = ts
 counting (Counts k) t ts = t ∷ ts
 counting (Takes x) t ts = t ∷ ts
@@ -48,6 +49,7 @@ Rise least (t ∷ ts) = (least ≤ t) × Rise (suc t) ts
 
 -- a notice that is taken is the adapter's
 abbrev pub Genuine : ℕ → Adapter → ℕ → Judgement → Type 0
+Genuine n A t Lost = Unit {0}
 Genuine n A t (Refuse k) = Unit {0}
 Genuine n A t (Counts k) = Unit {0}
 Genuine n A t (Takes x) = Wrote n A t x.pointer x.sts x.md

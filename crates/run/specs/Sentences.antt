@@ -19,11 +19,15 @@ use Rattle.run.specs.Claim.{told_exactly, Timed, OneTime}
 abbrev pub Sentence : Type 1
 Sentence = Board → Book → ℕ → Judgement → Reply Report → Type 0
 
--- it holds at every place of every run on the adapter's stream
-abbrev pub InEveryRun : Adapter → Sentence → Type 0
-InEveryRun A P =
-    (g : Board) (calls : List Call) → Run g A calls → (before after : List Call) (t : ℕ) (a : Arrival) → calls ≡ before ++ at t a ∷ after
+-- it holds at every place of all such lists of calls
+abbrev pub InEvery : (Board → List Call → Type 0) → Sentence → Type 0
+InEvery Such P =
+    (g : Board) (calls : List Call) → Such g calls → (before after : List Call) (t : ℕ) (a : Arrival) → calls ≡ before ++ at t a ∷ after
     → P g (book_after g closed before) t (verdict_at g (book_after g closed before) a) (hear (slave_after (begun g) before) a).reply
+
+-- and so of every run on the adapter's stream
+abbrev pub InEveryRun : Adapter → Sentence → Type 0
+InEveryRun A P = InEvery (λ g calls. Run g A calls) P
 
 -- where a notice is taken, the label equals the adapter's
 abbrev pub LabelWhereTaken : Sentence

@@ -1,4 +1,5 @@
 -- A call with a packet: 15 and 1 to 3 refuse it, else it is a judged step of a sound slave. What follows them is a packet's judgement or a numbers notice's.
+-- An empty packet is refused by neither form, and is a gap of one.
 use mathlib.Core.Path.{◌≡◌, refl}
 use mathlib.Core.Bool.{Bool, true, false, cond}
 use mathlib.Core.List.{List}
@@ -10,13 +11,13 @@ use Rattle.wire.specs.Reply.{refused, must}
 use Rattle.state.specs.Slave.{cold}
 use Rattle.state.specs.Sound.{sound}
 use Rattle.state.specs.declared.Slave.{Slave}
-use Rattle.judging.specs.Judge.{unless_refused, arrival_refusal, judge_arrived, judge_given}
+use Rattle.judging.specs.Judge.{unless_refused, is_empty, arrival_refusal, judge_arrived, judge_given}
 use Rattle.judging.specs.Judgement.{Judgement, Refuse}
 use Rattle.judging.specs.declared.Numbers.{Numbers}
 use Rattle.judging.proofs.Judging.{refuses}
 use Rattle.slave.specs.Answer.{Report, Result, left}
-use Rattle.slave.specs.Step.{step_of}
-use Rattle.slave.specs.Calls.{unless15, ready_refusal, packet_of, numbers_of}
+use Rattle.slave.specs.Calls.{unless15, step_of, ready_refusal, packet_of, numbers_of}
+use Rattle.slave.specs.Ways.{lost_by}
 
 -- 15 is none of the numbers of an arrival
 apart : (a b c : Bool) → must a 1 (must b 2 (must c 3 0)) ≡ 15 → ⊥
@@ -43,9 +44,13 @@ module _ (s : Slave) (p : List ℕ) (tick : ℕ) where
   abbrev pub judged_call : Judgement → Result Report
   judged_call j = unless15 (sound s) (step_of s (unless_refused (arrival_refusal s.board.profile p tick) j) tick)
 
-  pub packet_is : judged_call (judge_arrived s.board s.settings p) ≡ packet_of s p tick
+  pub packet_is : is_empty p ≡ false → judged_call (judge_arrived s.board s.settings p) ≡ packet_of s p tick
   unfolding packet_of
-  packet_is = refl
+  packet_is e = rw e refl
+
+  pub packet_lost : is_empty p ≡ true → lost_by s ≡ packet_of s p tick
+  unfolding packet_of step_of
+  packet_lost e = rw e refl
 
   pub numbers_is : (x : Numbers) → judged_call (cond (eqb s.board.profile 0) (Refuse 20) (judge_given s.board s.settings p x)) ≡ numbers_of s p tick x
   unfolding numbers_of

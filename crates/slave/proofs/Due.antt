@@ -1,7 +1,7 @@
 -- What a mark that is due shows of the slave: it counted label 0 with a notice pending, whose times or lateness these are, in the unit of its profile.
 -- And what holds of every mark that a call releases or finds late, whatever the slave, the bytes and the tick.
 use mathlib.Core.Path.{◌≡◌, refl, subst}
-use mathlib.Core.Bool.{true}
+use mathlib.Core.Bool.{Bool, true, false}
 use mathlib.Core.List.{List}
 use Prim.Native.Nat.{ℕ, zero, suc, ◌-◌, ◌*◌, ◌≤◌}
 use native.Mathlib.Omega.{arith}
@@ -16,14 +16,14 @@ use Rattle.state.specs.Profile.{second}
 use Rattle.state.specs.Sound.{sound}
 use Rattle.state.specs.declared.Slave.{Slave}
 use Rattle.state.proofs.Sound.{pending_kept}
-use Rattle.judging.specs.Judge.{unless_refused, arrival_refusal}
-use Rattle.judging.specs.Judgement.{Judgement, Refuse, Counts, Takes}
+use Rattle.judging.specs.Judge.{unless_refused, is_empty, arrival_refusal}
+use Rattle.judging.specs.Judgement.{Judgement, Lost, Refuse, Counts, Takes}
 use Rattle.judging.specs.declared.Numbers.{Numbers}
 use Rattle.judging.proofs.Judging.{arrived_tick}
 use Rattle.slave.specs.Answer.{unmarked, untimed, due, Report, mark_in, Result}
-use Rattle.slave.specs.Step.{release_at, mark_at, mark_taken, passed, unheard, counted, took, step_of}
-use Rattle.slave.specs.Calls.{packet_of, numbers_of}
-use Rattle.slave.proofs.Calling.{judged_call, packet_is, numbers_is}
+use Rattle.slave.specs.Step.{release_at, mark_at, mark_taken, passed, unheard, counted, took}
+use Rattle.slave.specs.Calls.{step_of, packet_of, numbers_of}
+use Rattle.slave.proofs.Calling.{judged_call, packet_is, packet_lost, numbers_is}
 
 pub record OwnDue (s : Slave) (tick profile : ℕ) (d : Due) : Type 0 where
   pub locked : s.count.phase ≡ 2
@@ -74,6 +74,7 @@ module _ (s : Slave) (tick profile : ℕ) (d : Due) where
 
     step_due : (j : Judgement) → IfDue (step_of s j tick).reply
     unfolding step_of counted passed unheard took
+    step_due Lost = no_mark
     step_due (Refuse k) = no_mark
     step_due (Counts k) =
         pick (λ (r : Result Report). IfDue r.reply) (eqb s.count.phase 2) _ _
@@ -95,7 +96,11 @@ module _ (s : Slave) (tick profile : ℕ) (d : Due) where
 
     -- of a packet, and of a numbers notice
     pub packet_due : IfDue (packet_of s p tick).reply
-    packet_due = subst (λ (r : Result Report). IfDue r.reply) (packet_is s p tick) (call_due _)
+    packet_due = by_length (is_empty p) refl
+      where
+        by_length : (b : Bool) → is_empty p ≡ b → IfDue (packet_of s p tick).reply
+        by_length true e = subst (λ (r : Result Report). IfDue r.reply) (packet_lost s p tick e) (pick (λ (r : Result Report). IfDue r.reply) (sound s) _ _ no_mark no_mark)
+        by_length false e = subst (λ (r : Result Report). IfDue r.reply) (packet_is s p tick e) (call_due _)
 
     pub numbers_due : (x : Numbers) → IfDue (numbers_of s p tick x).reply
     numbers_due x = subst (λ (r : Result Report). IfDue r.reply) (numbers_is s p tick x) (call_due _)

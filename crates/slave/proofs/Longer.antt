@@ -13,8 +13,9 @@ use Rattle.state.specs.declared.Slave.{Slave}
 use Rattle.judging.specs.Judgement.{Counts, Takes}
 use Rattle.judging.specs.declared.Taken.{Taken}
 use Rattle.slave.specs.Answer.{due, mark_in, Report, Result}
-use Rattle.slave.specs.Step.{release_at, mark_at, mark_taken, passed, unheard, counted, took, step_of}
+use Rattle.slave.specs.Step.{release_at, mark_at, mark_taken, passed, unheard, counted, took}
 use Rattle.slave.specs.Gap.{gapped}
+use Rattle.slave.specs.Calls.{step_of}
 use Rattle.slave.proofs.Due.{unmarked_apart, untimed_apart, OwnDue}
 
 abbrev pub longer_waiting : ℕ → Waiting → Waiting

@@ -21,26 +21,27 @@ use Rattle.state.specs.declared.Waiting.{Waiting}
 use Rattle.state.specs.declared.Slave.{Slave}
 use Rattle.state.proofs.Sound.{admitted, some_packets, settings_kept_lem, locked, fitting, is_sound}
 use Rattle.judging.specs.Judge.{judge_packet, judge_numbers}
-use Rattle.judging.specs.Judgement.{Judgement, Refuse, Counts, Takes}
+use Rattle.judging.specs.Judgement.{Judgement, Lost, Refuse, Counts, Takes}
 use Rattle.judging.specs.declared.Numbers.{Numbers}
 use Rattle.judging.specs.declared.Taken.{Taken}
 use Rattle.judging.proofs.Taking.{IfTaken, Fit, packet_fit, numbers_fit}
 use Rattle.slave.specs.Answer.{Report, Result, left}
-use Rattle.slave.specs.Step.{raised, count_at, passed, unheard, notice_by, counted, agrees, took, step_of}
+use Rattle.slave.specs.Step.{raised, count_at, passed, unheard, notice_by, counted, agrees, took}
 use Rattle.slave.specs.Gap.{to_mark, marks_in, gapped}
-use Rattle.slave.specs.Calls.{packet_of, numbers_of, gap_of}
+use Rattle.slave.specs.Calls.{step_of, packet_of, numbers_of, gap_of}
 
 -- ---- the start's settings stay
-
-pub step_board : (s : Slave) (j : Judgement) (tick : ℕ) → (step_of s j tick).slave.board ≡ s.board
-unfolding step_of counted passed unheard took
-step_board s (Refuse k) tick = refl
-step_board s (Counts k) tick = grind (arith, nat_tests)
-step_board s (Takes t) tick = refl
 
 pub gap_board : (s : Slave) (k : ℕ) → (gapped s k).board ≡ s.board
 unfolding gapped
 gap_board s k = grind (arith, nat_tests)
+
+pub step_board : (s : Slave) (j : Judgement) (tick : ℕ) → (step_of s j tick).slave.board ≡ s.board
+unfolding step_of counted passed unheard took
+step_board s Lost tick = gap_board s 1
+step_board s (Refuse k) tick = refl
+step_board s (Counts k) tick = grind (arith, nat_tests)
+step_board s (Takes t) tick = refl
 
 -- ---- the index and the pending notice over a step
 
@@ -93,14 +94,6 @@ module _ (s : Slave) (ok : sound s ≡ true) where
         held = join (join f.limits.sts f.limits.md) f.limits.delay;
       })
 
-  -- a judged packet, if what was taken kept the limits
-  pub step_sound : (j : Judgement) (tick : ℕ) → IfTaken (Fit s.board) j → sound (step_of s j tick).slave ≡ true
-  unfolding step_of counted unheard
-  step_sound (Refuse k) tick f = ok
-  step_sound (Counts k) tick f =
-      split (λ (r : Result Report). sound r.slave ≡ true) (eqb s.count.phase 2) _ _ (λ e. passed_sound (eqb-true _ _ e) k tick) (λ e. ok)
-  step_sound (Takes t) tick f = took_sound t tick f
-
   pub gapped_sound : (k : ℕ) → sound (gapped s k) ≡ true
   unfolding gapped
   gapped_sound k =
@@ -115,6 +108,15 @@ module _ (s : Slave) (ok : sound s ≡ true) where
         held = pick WaitingFits (leb k (to_mark s.board.n s.count.next)) _ _ l.held (nothing_fits s.board s.settings.od);
       }))
       (λ e. ok)
+
+  -- a judged packet, if what was taken kept the limits
+  pub step_sound : (j : Judgement) (tick : ℕ) → IfTaken (Fit s.board) j → sound (step_of s j tick).slave ≡ true
+  unfolding step_of counted unheard
+  step_sound Lost tick f = gapped_sound 1
+  step_sound (Refuse k) tick f = ok
+  step_sound (Counts k) tick f =
+      split (λ (r : Result Report). sound r.slave ≡ true) (eqb s.count.phase 2) _ _ (λ e. passed_sound (eqb-true _ _ e) k tick) (λ e. ok)
+  step_sound (Takes t) tick f = took_sound t tick f
 
   -- ---- the calls of a sound slave are its steps, and leave a sound slave
   pub packet_is_step : (p : List ℕ) (tick : ℕ) → packet_of s p tick ≡ step_of s (judge_packet s.board s.settings p tick) tick

@@ -1,4 +1,4 @@
--- The calls of a slave: 15 comes first, and leaves the cold slave.
+-- The calls of a slave: 15 comes first, and leaves the cold slave. A sound one takes the step that its call is judged to.
 use Rattle.std.specs.Prelude.{ℕ, Bool, cond, List}
 use Rattle.wire.specs.Reply.{refused, given, must}
 use Rattle.state.specs.Profile.{settings_kept}
@@ -7,14 +7,22 @@ use Rattle.state.specs.Sound.{sound}
 use Rattle.state.specs.declared.Board.{Board}
 use Rattle.state.specs.declared.Slave.{Slave}
 use Rattle.judging.specs.Judge.{arrival_refusal, judge_packet, judge_numbers}
+use Rattle.judging.specs.Judgement.{Judgement, Lost, Refuse, Counts, Takes}
 use Rattle.judging.specs.declared.Numbers.{Numbers}
 use Rattle.slave.specs.Answer.{Report, Result, left}
-use Rattle.slave.specs.Step.{step_of}
-use Rattle.slave.specs.Gap.{gapped}
+use Rattle.slave.specs.Step.{counted, took}
+use Rattle.slave.specs.Gap.{gapped, lost}
 
 -- what follows where a condition holds, else 15
 abbrev pub unless15 : {A : Type 0} → Bool → Result A → Result A
 unless15 ok r = cond ok r (left cold (refused 15))
+
+-- what a judged packet does
+unfoldable pub step_of : Slave → Judgement → ℕ → Result Report
+step_of s Lost tick = lost s
+step_of s (Refuse k) tick = left s (refused k)
+step_of s (Counts k) tick = counted s k tick
+step_of s (Takes t) tick = took s t tick
 
 -- 15, then 1, 2, 3: what refuses a call with a packet before its notice is judged
 unfoldable pub ready_refusal : Slave → List ℕ → ℕ → ℕ

@@ -1,7 +1,7 @@
 -- The steps of a sound slave on a packet that was judged (document 01, "Steps of a slave").
 use Rattle.std.specs.Prelude.{ℕ, zero, suc, ◌+◌, ◌%◌, Bool, false, cond, not, ◌&&◌, eqb}
 use Rattle.std.proofs.Math.Option.{Option, none, some}
-use Rattle.wire.specs.Reply.{refused, given}
+use Rattle.wire.specs.Reply.{given}
 use Rattle.times.specs.Release.{due_of}
 use Rattle.cadence.specs.Label.{label_of, next_label}
 use Rattle.cadence.specs.MobileFrame.{frame_marks, mobile_place}
@@ -12,7 +12,6 @@ use Rattle.state.specs.declared.Count.{Count}
 use Rattle.state.specs.declared.Waiting.{Waiting}
 use Rattle.state.specs.declared.Slave.{Slave}
 use Rattle.judging.specs.declared.Taken.{Taken}
-use Rattle.judging.specs.Judgement.{Judgement, Refuse, Counts, Takes}
 use Rattle.slave.specs.Answer.{Notice, absent, taken, slip, ignored, Mark, unmarked, untimed, due, Report, Result, left}
 
 -- each mark passed raises a known index by one, 19 to 0
@@ -57,7 +56,7 @@ count_at c = cond (eqb c.next 0) (past c 1) c
 abbrev pub kept_at : Slave → Waiting
 kept_at s = cond (eqb s.count.next 0) nothing s.waiting
 
--- the report on a counted packet of which no notice is taken; a hunting slave has no label, no mark and no place
+-- the report on a counted packet of which no notice is taken; a hunting slave has no label, no mark and no place, and an empty packet has none
 abbrev pub counted_report : (label index : ℕ) → Notice → Mark → Report
 counted_report label index notice mark =
     record { label = some label; notice = notice; turn = false; mark = mark; place = place_of index label }
@@ -120,9 +119,3 @@ unfoldable pub took : Slave → Taken → ℕ → Result Report
 took s t tick =
     let label : ℕ = label_of s.board.n t.pointer in
     entered s t label (index_before s.count label) (notice_taken s.count label) (mark_taken s label tick)
-
--- what a judged packet does
-unfoldable pub step_of : Slave → Judgement → ℕ → Result Report
-step_of s (Refuse k) tick = left s (refused k)
-step_of s (Counts k) tick = counted s k tick
-step_of s (Takes t) tick = took s t tick

@@ -5,9 +5,12 @@ use Rattle.std.specs.Prelude.{Ok, Err, cond, eqb}
 use Rattle.wire.specs.declared.Refusal.{Refusal}
 use Rattle.wire.specs.Reply.{refused, given, refusal_number}
 use Rattle.state.specs.Slave.{cold, nothing}
+use Rattle.state.specs.Sound.{sound}
 use Rattle.state.specs.declared.Slave.{Slave}
 use Rattle.slave.specs.Answer.{absent, report_of, Report, Result, left}
 use Rattle.slave.specs.Step.{labelled, moved_to, unheard_report}
+use Rattle.slave.specs.Gap.{lost}
+use Rattle.slave.specs.Calls.{unless15}
 use Rattle.slave.specs.declared.Short.{Short}
 use Rattle.slave.specs.declared.Marked.{Marked}
 use Rattle.slave.specs.declared.Moved.{Moved}
@@ -36,7 +39,12 @@ left_by s r = cond (eqb (refusal_number r) 15) cold s
 abbrev pub refused_by : Slave → Refusal → Result Report
 refused_by s r = left (left_by s r) (refused (refusal_number r))
 
+-- an empty packet's way does all that the call does: 15, then the gap
+abbrev pub lost_by : Slave → Result Report
+lost_by s = unless15 (sound s) (lost s)
+
 abbrev pub way_of : Slave → std.Result Way Refusal → Result Report
+way_of s (Ok way.Lost) = lost_by s
 way_of s (Ok way.Hunts) = left s (given (unheard_report absent))
 way_of s (Ok (way.Short q)) = short_of s q
 way_of s (Ok (way.Marked m)) = marked_of s m

@@ -6,10 +6,9 @@ ghost use Rattle.std.specs.Prelude.{◌≡◌, Ok};
 ghost use Rattle.wire.specs.Reply.{Reply, refused, given, refusal_number, reply_of};
 ghost use Rattle.state.specs.Slave.{cold};
 ghost use Rattle.slave.specs.Answer.{Report, Leaves, left, report_of, answer_of, stepped_of};
-ghost use Rattle.slave.specs.Calls.{start_of, packet_of, numbers_of, gap_of};
+ghost use Rattle.slave.specs.Calls.{step_of, start_of, packet_of, numbers_of, gap_of};
 ghost use Rattle.judging.specs.Judge.{judge_arrived, judge_given};
-ghost use Rattle.slave.specs.Step.{step_of};
-ghost use Rattle.slave.specs.Ways.{moved_of, refused_by, way_of};
+ghost use Rattle.slave.specs.Ways.{moved_of, refused_by, lost_by, way_of};
 
 use addressing::Settings;
 use judging::Numbers;
@@ -99,10 +98,11 @@ pub struct Moved {
     pub report: Counted,
 }
 
-// What a packet that is not refused does to a slave. Packets without a notice have three ways of their own: a hunting slave stays as it is, the label
-// moves on, or a mark is passed.
+// What a packet that is not refused does to a slave. An empty one is a gap of one. Packets without a notice have three ways of their own: a hunting slave
+// stays as it is, the label moves on, or a mark is passed.
 #[derive(Clone, Copy)]
 pub enum Way {
+    Lost,
     Hunts,
     Short(Short),
     Marked(Marked),
@@ -136,7 +136,7 @@ fn go_cold(s: &mut Slave) -> Result<(), Refusal>
 
 // A packet that arrived right, on a sound slave: what was judged decides which step is taken, and each is one method. A function of one caller, so that
 // the compiler keeps the steps out of memory.
-#[tactic(auto, using(judging::proofs::Judging::arrived_limits), unfolding(crate::specs::Step::step_of, crate::specs::Step::counted, crate::specs::Step::unheard))]
+#[tactic(auto, using(judging::proofs::Judging::arrived_limits), unfolding(crate::specs::Calls::step_of, crate::specs::Step::counted, crate::specs::Step::unheard))]
 fn arrived(r: Ready<'_>, p: &[u8]) -> Way
     ensures { way_of r.entry.slave.now (Ok result) ≡ step_of r.entry.slave.now (judge_arrived r.entry.slave.now.board r.entry.slave.now.settings p.now) r.entry.tick }
 {
@@ -151,11 +151,15 @@ fn arrived(r: Ready<'_>, p: &[u8]) -> Way
     }
 }
 
-// What a packet with its arrival tick does. Each thing is judged once, in document 01's order: 15, then 1 to 3, then 4 and 6 to 13.
-#[tactic(auto, unfolding(crate::specs::Calls::packet_of))]
+// What a packet with its arrival tick does. An empty one is a gap of one, which asks for 15 itself. Any other is judged in document 01's order, each thing
+// once: 15, then 1 to 3, then 4 and 6 to 13.
+#[tactic(auto, using(crate::proofs::Calling::packet_lost), unfolding(crate::specs::Calls::packet_of))]
 pub fn way_of(s: &Slave, p: &[u8], tick: u32) -> Result<Way, Refusal>
     ensures { way_of s.now result ≡ packet_of s.now p.now tick }
 {
+    if p.is_empty() {
+        return Ok(Way::Lost);
+    }
     let r = Ready::new(s, p, tick)?;
     Ok(arrived(r, p))
 }
@@ -185,6 +189,17 @@ fn refuse<A: Answer>(s: &mut Slave, r: Refusal) -> A
     }
 }
 
+// An empty packet stands for one that was lost: the slave is told a gap of one, and the reply has nothing in it (document 02, Paper 5).
+#[tactic(auto, unfolding(crate::specs::Calls::gap_of))]
+pub fn lost<A: Answer>(s: &mut Slave) -> A
+    ensures { Leaves A.says s.new result (lost_by s.old) }
+{
+    match gap(s, 1) {
+        Ok(()) => A::counted(steps::unheard(NoticePart::Absent)),
+        Err(r) => A::refused(r),
+    }
+}
+
 // What a packet does to a slave, stored in it, and its reply. Each arm makes its own reply: one made after them of what they give would go through memory.
 #[inline(always)]
 fn apply<A: Answer>(s: &mut Slave, way: Result<Way, Refusal>) -> A
@@ -196,6 +211,7 @@ fn apply<A: Answer>(s: &mut Slave, way: Result<Way, Refusal>) -> A
             return A::counted(q.report);
         }
         Ok(Way::Hunts) => return A::counted(steps::unheard(NoticePart::Absent)),
+        Ok(Way::Lost) => return lost(s),
         Ok(Way::Marked(m)) => {
             s.count = m.count;
             s.waiting = state::nothing_waiting();

@@ -93,6 +93,9 @@ pub extern "C" fn vikombare_packet(s: &mut Slave, p: &[u8], tick: Tick) -> Packe
         Ok(Way::Hunts) => {
             return replies::number_alone(0);
         }
+        Ok(Way::Lost) => {
+            return slave::lost(s);
+        }
         Ok(Way::Marked(m)) => {
             s.count = m.count;
             s.waiting = state::nothing_waiting();

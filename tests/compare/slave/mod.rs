@@ -6,7 +6,7 @@ mod sweeps;
 use super::comparison::{Cases, Compared, Comparison, Subject};
 use crate::other::basics::{dvb_cadences, second, A110_SECOND, DVB_SECOND};
 use crate::other::faults::{self, Fault};
-use runs::{FOREIGN, NUMBERS, PACKET, RUN};
+use runs::{EMPTY, FOREIGN, NUMBERS, PACKET, RUN};
 
 pub struct Calls;
 
@@ -23,6 +23,7 @@ impl Subject for Calls {
     fn sweeps(comparison: &mut Comparison<Self>) -> Compared {
         comparison.sweep_starts()?;
         comparison.sweep_lengths()?;
+        comparison.sweep_empty()?;
         comparison.sweep_parts()?;
         comparison.sweep_ticks()?;
         comparison.sweep_late()?;
@@ -45,11 +46,17 @@ fn required() -> Cases {
         ("packet", "number", vec![0, 15, 1, 2, 3]),
         ("packet", "of length", lengths.clone()),
         ("packet", "with a bit flipped", (0..8 * 188).collect()),
-        (FOREIGN, "number", vec![15, 1, 2, 3]),
+        (FOREIGN, "number", vec![0, 15, 1, 2, 3]),
         (FOREIGN, "of length", lengths.clone()),
         (FOREIGN, "100 × phase + profile of the slave", vec![100, 101, 200, 201]),
         (FOREIGN, "of clock", vec![0, 1, 2, 255]),
         (FOREIGN, "tick", [DVB_SECOND, A110_SECOND].map(i64::from).into_iter().flat_map(|u| [0, u - 1, u]).collect()),
+        (EMPTY, "number", vec![0, 15]),
+        (EMPTY, "100 × phase + profile", vec![100, 101, 200, 201]),
+        (EMPTY, "tick", [DVB_SECOND, A110_SECOND].map(i64::from).into_iter().flat_map(|u| [0, u - 1, u, u32::MAX.into()]).collect()),
+        (EMPTY, "on the mark (10) with pending (1)", vec![0, 1, 10, 11]),
+        (EMPTY, "on the mark with index", indexes.iter().copied().chain([255]).collect()),
+        (EMPTY, "before the mark with pending", vec![0, 1]),
         (NUMBERS, "number", vec![0, 15, 1, 2, 3, 20]),
         (NUMBERS, "of length", lengths),
         (NUMBERS, "taken with index", indexes.iter().copied().chain([255]).collect()),

@@ -15,6 +15,7 @@ use crate::other::slave::{Numbers, Slave, HUNTING, LOCKED, UNKNOWN};
 pub const PACKET: [&str; 2] = ["packet in profile 0", "packet in profile 1"];
 pub const NUMBERS: &str = "numbers notice";
 pub const FOREIGN: &str = "packet with another clock's tick";
+pub const EMPTY: &str = "empty packet";
 pub const RUN: &str = "run";
 
 fn change(outcome: Outcome) -> Change {
@@ -39,7 +40,11 @@ impl Comparison<Calls> {
         let stepped = self.call(slave, Call::Packet { form: Form::InPlace, packet: lent, tick })?.step();
         self.listed("packet", "number", stepped.reply.number)?;
         self.saw("packet", "of length", packet.len() as i64);
-        self.saw_step(PACKET[usize::from(slave.profile & 1)], slave, tick, &stepped)?;
+        if packet.is_empty() {
+            self.saw_empty(slave, tick, &stepped);
+        } else {
+            self.saw_step(PACKET[usize::from(slave.profile & 1)], slave, tick, &stepped)?;
+        }
         Ok(stepped)
     }
 
@@ -105,6 +110,26 @@ impl Comparison<Calls> {
             }
         }
         Ok(shifted)
+    }
+
+    /// Counts what an empty packet reached.
+    fn saw_empty(&mut self, before: Slave, tick: u32, after: &Step) {
+        self.saw(EMPTY, "number", after.reply.number);
+        if after.reply.number != 0 {
+            return;
+        }
+        self.saw(EMPTY, "100 × phase + profile", 100 * i64::from(before.phase) + i64::from(before.profile));
+        self.saw(EMPTY, "tick", tick);
+        if before.phase == LOCKED {
+            let passed = i64::from(before.next == 0);
+            self.saw(EMPTY, "on the mark (10) with pending (1)", 10 * passed + i64::from(before.pending));
+            if before.next == 0 {
+                self.saw(EMPTY, "on the mark with index", before.index);
+            }
+            if before.next == before.n - 1 {
+                self.saw(EMPTY, "before the mark with pending", before.pending);
+            }
+        }
     }
 
     /// Counts what a packet or a numbers notice reached.
@@ -226,6 +251,12 @@ impl Comparison<Calls> {
             // 0 untold, 1 too few, 2 exactly, 3 too many
             let how = if told == 0 { 0 } else { 2 + (told as i64 - lost as i64).signum() };
             self.saw(RUN, "packets lost and told", how);
+        }
+        // few of them by a card's empty packets
+        while told > 0 && told < 8 && self.random.one_in(2) {
+            let tick = any_tick(&mut self.random, &run.slave);
+            run.slave = self.packet(run.slave, &[], tick)?.slave;
+            told -= 1;
         }
         while told > 0 || self.random.one_in(16) {
             let k = told.min(65_535);

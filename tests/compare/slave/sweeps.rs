@@ -72,9 +72,26 @@ impl Comparison<Calls> {
         Ok(())
     }
 
+    /// An empty packet: every tick on its limits, of either clock, and each index and label about the mark.
+    pub fn sweep_empty(&mut self) -> Compared {
+        for slave in kinds() {
+            for tick in notices::edges(DVB_SECOND).into_iter().chain(notices::edges(A110_SECOND)).chain([u32::MAX]) {
+                self.packet(slave, &[], tick)?;
+                self.foreign(slave, &[], tick)?;
+            }
+            for index in (0..20).chain([UNKNOWN]) {
+                for next in [0, 1, slave.n - 1] {
+                    self.packet(Slave { index, next, ..slave }, &[], IN_TIME)?;
+                }
+            }
+        }
+        Ok(())
+    }
+
     /// A slave of any parts: every call with it.
     fn any_call(&mut self, slave: Slave, packet: &[u8], numbers: &Numbers) -> Compared {
         self.packet(slave, packet, IN_TIME)?;
+        self.packet(slave, &[], IN_TIME)?;
         self.foreign(slave, packet, IN_TIME)?;
         self.numbers(slave, packet, IN_TIME, numbers)?;
         self.gap(slave, 0)?;

@@ -8,8 +8,7 @@ use Rattle.state.specs.declared.Slave.{Slave}
 use Rattle.judging.specs.Judge.{judge_given}
 use Rattle.judging.specs.Judgement.{Judgement, Refuse}
 use Rattle.judging.specs.declared.Numbers.{Numbers}
-use Rattle.slave.specs.Step.{step_of}
-use Rattle.slave.specs.Calls.{ready_refusal, numbers_of}
+use Rattle.slave.specs.Calls.{step_of, ready_refusal, numbers_of}
 use Rattle.slave.specs.Ways.{moved_of}
 use Rattle.slave.proofs.Calling.{numbers_is, call_refused, call_steps}
 use Rattle.slave.proofs.numbers_notice.Goals as goal

@@ -1,0 +1,270 @@
+-- Behind a radio link card: an empty packet is a gap of one, and where all that is lost is told in its place, the book has nothing untold.
+use mathlib.Core.Path.{◌≡◌, refl, sym, ap, ◌∙◌, subst}
+use mathlib.Core.Bool.{Bool, true, false, cond, ◌&&◌, false≢true}
+use mathlib.Core.List.{List, [], ◌∷◌, ◌++◌}
+use mathlib.Core.Option.{some}
+use Prim.Native.Nat.{ℕ, zero, suc, ◌+◌, ◌%◌, ◌<◌}
+use native.Mathlib.Omega.{arith}
+use lib.IntN.{ℤ, pos, negsuc}
+use lib.Dec.{eqb}
+use borrow.Author.Tests.{eqb-false}
+use Rattle.wire.specs.Reply.{Reply, refused, given, number_of}
+use Rattle.wire.proofs.Tests.{join}
+use Rattle.times.specs.Release.{Times, released}
+use Rattle.times.proofs.Whole.{Diff, natural, sum, difference, residue_only}
+use Rattle.state.specs.Profile.{second}
+use Rattle.state.specs.Sound.{is_zero, sound}
+use Rattle.state.specs.declared.Board.{Board}
+use Rattle.state.specs.declared.Slave.{Slave}
+use Rattle.state.proofs.Sound.{some_packets}
+use Rattle.judging.specs.Judgement.{Judgement, Lost, Refuse, Counts, Takes}
+use Rattle.slave.specs.Answer.{absent, taken, slip, ignored, due, Report, notice_in, mark_in, Result}
+use Rattle.slave.specs.Calls.{step_of, packet_of, gap_of}
+use Rattle.slave.proofs.Due.{unmarked_apart}
+use Rattle.run.specs.Adapter.{Adapter}
+use Rattle.run.specs.Book.{Form, Arrival, packet, numbers, Call, at, gap, judged, Book, closed, opened, verdict_at, untold, count_place, tell_gap, enter, enter_call, book_after}
+use Rattle.run.specs.Run.{hear, leave, slave_after, begun, counting, places, GenuineCall, AllGenuine, Run}
+use Rattle.run.specs.Card.{by_gap, by_gaps, OneByGaps, InPlace, place_behind, AllTold, ToldRun, LabelWhereTold, NoSlip, TimeWhereReleased, AllToldAgree}
+use Rattle.run.specs.Claim.{slip_by, told_exactly, Timed, ReleasedAt, RightReply}
+use Rattle.run.proofs.Congruence.{label_behind}
+use Rattle.run.proofs.Run.{heard_due, hunts, one_time_of, demand_3}
+use Rattle.run.proofs.Sentences.{has_notice, sentences}
+
+-- ---- an empty packet and a gap of one
+
+-- two answers of one number that leave one slave, also behind one choice
+choice_slave : {X Y : Type 0} (b : Bool) (x y : Result X) (x' y' : Result Y) → x.slave ≡ x'.slave → y.slave ≡ y'.slave → (cond b x y).slave ≡ (cond b x' y').slave
+choice_slave true x y x' y' e f = e
+choice_slave false x y x' y' e f = f
+
+choice_number : {X Y : Type 0} (b : Bool) (x y : Result X) (x' y' : Result Y) → number_of x.reply ≡ number_of x'.reply
+    → number_of y.reply ≡ number_of y'.reply → number_of (cond b x y).reply ≡ number_of (cond b x' y').reply
+choice_number true x y x' y' e f = e
+choice_number false x y x' y' e f = f
+
+module _ (s : Slave) (tick : ℕ) where
+  one_slave : (packet_of s [] tick).slave ≡ (gap_of s 1).slave
+  unfolding packet_of step_of gap_of
+  one_slave = choice_slave (sound s) _ _ _ _ refl refl
+
+  one_number : number_of (packet_of s [] tick).reply ≡ number_of (gap_of s 1).reply
+  unfolding packet_of step_of gap_of
+  one_number = choice_number (sound s) _ _ _ _ refl refl
+
+-- what holds of an empty packet with a gap of one, and of any call with itself, holds of each call with what takes its place
+by_kind : (P : Call → Call → Type 0) → ((t : ℕ) (form : Form) (tick : ℕ) → P (at t (packet form [] tick)) (gap 1)) → ((c : Call) → P c c)
+    → (c : Call) → P c (by_gap c)
+by_kind P e r (at t (packet form [] tick)) = e t form tick
+by_kind P e r (at t (packet form (x ∷ p) tick)) = r (at t (packet form (x ∷ p) tick))
+by_kind P e r (at t (numbers p tick x)) = r (at t (numbers p tick x))
+by_kind P e r (gap k) = r (gap k)
+
+left_alike : (s : Slave) (c : Call) → leave s (by_gap c) ≡ leave s c
+unfolding leave hear
+left_alike s = by_kind (λ c d. leave s d ≡ leave s c) (λ t form tick. sym (one_slave s tick)) (λ c. refl)
+
+slaves : (s : Slave) (cs : List Call) → slave_after s (by_gaps cs) ≡ slave_after s cs
+unfolding slave_after by_gaps
+slaves s [] = refl
+slaves s (c ∷ cs) = ap (λ (x : Slave). slave_after x (by_gaps cs)) (left_alike s c) ∙ slaves (leave s c) cs
+
+module _ (g : Board) where
+  entered_alike : (b : Book) (c : Call) → enter_call g b (by_gap c) ≡ enter_call g b c
+  unfolding enter_call verdict_at judged enter
+  entered_alike b = by_kind (λ c d. enter_call g b d ≡ enter_call g b c) (λ t form tick. refl) (λ c. refl)
+
+  books : (b : Book) (cs : List Call) → book_after g b (by_gaps cs) ≡ book_after g b cs
+  unfolding book_after by_gaps
+  books b [] = refl
+  books b (c ∷ cs) = ap (λ (x : Book). book_after g x (by_gaps cs)) (entered_alike b c) ∙ books (enter_call g b c) cs
+
+  -- the places counted, and what is asked of the notices
+  places_alike : (b : Book) (c : Call) (cs ds : List Call) → places g (enter_call g b c) ds ≡ places g (enter_call g b c) cs
+      → places g b (by_gap c ∷ ds) ≡ places g b (c ∷ cs)
+  unfolding places enter_call verdict_at judged enter
+  places_alike b =
+      by_kind
+      (λ c d. (cs ds : List Call) → places g (enter_call g b c) ds ≡ places g (enter_call g b c) cs → places g b (d ∷ ds) ≡ places g b (c ∷ cs))
+      (λ t form tick cs ds e. e)
+      own
+    where
+      own : (c : Call) (cs ds : List Call) → places g (enter_call g b c) ds ≡ places g (enter_call g b c) cs → places g b (c ∷ ds) ≡ places g b (c ∷ cs)
+      own (at t a) cs ds e = ap (counting (verdict_at g b a) t) e
+      own (gap k) cs ds e = e
+
+  all_places : (b : Book) (cs : List Call) → places g b (by_gaps cs) ≡ places g b cs
+  unfolding by_gaps
+  all_places b [] = refl
+  all_places b (c ∷ cs) = places_alike b c cs (by_gaps cs) (all_places (enter_call g b c) cs)
+
+  module _ (A : Adapter) where
+    abbrev Same : Book → Call → Call → Type 0
+    Same b c d = (GenuineCall g A b c → GenuineCall g A b d) × (GenuineCall g A b d → GenuineCall g A b c)
+
+    genuine_alike : (b : Book) (c : Call) → Same b c (by_gap c)
+    unfolding verdict_at judged
+    genuine_alike b = by_kind (Same b) (λ t form tick. (λ w. tt, λ w. tt)) (λ c. (λ w. w, λ w. w))
+
+    all_genuine : (b : Book) (cs : List Call) → AllGenuine g A b cs → AllGenuine g A b (by_gaps cs)
+    unfolding by_gaps
+    all_genuine b [] w = tt
+    all_genuine b (c ∷ cs) w =
+        ((genuine_alike b c).0 w.0, rw entered_alike (all_genuine (enter_call g b c) cs w.1))
+
+    genuine_back : (b : Book) (cs : List Call) → AllGenuine g A b (by_gaps cs) → AllGenuine g A b cs
+    unfolding by_gaps
+    genuine_back b [] w = tt
+    genuine_back b (c ∷ cs) w =
+        ((genuine_alike b c).1 w.0, genuine_back (enter_call g b c) cs (rw entered_alike at w.1))
+
+pub one_by_gaps : OneByGaps
+one_by_gaps =
+    record {
+      one_slave = one_slave;
+      one_number = one_number;
+      slaves = slaves;
+      replies = λ s before a. ap (λ (x : Slave). hear x a) (slaves s before);
+      gaps = λ s before k. ap (λ (x : Slave). gap_of x k) (slaves s before);
+      books = books;
+      runs = λ g A calls run.
+          record { accepted = run.accepted; rising = rw all_places run.rising; genuine = all_genuine g A closed calls run.genuine };
+      runs_back = λ g A calls run.
+          record { accepted = run.accepted; rising = (rw all_places at run.rising); genuine = genuine_back g A closed calls run.genuine };
+    }
+
+-- ---- all that is lost is told in its place
+
+none : (z : ℤ) {a : ℕ} → Diff z a a → is_zero z ≡ true
+unfolding is_zero
+none (pos k) d = let e : k ≡ 0 = omega (arith, d.is) in rw e refl
+none (negsuc k) d = absurd (omega (arith, d.is))
+
+-- the book takes what comes next for the packet of place t, and all was told exactly till now
+abbrev Even : Book → ℕ → Type 0
+Even closed t = Unit {0}
+Even (opened s u told od) t = (told ≡ true) × Diff u (suc s) t
+
+none_untold : (s : ℕ) (u : ℤ) (t : ℕ) → Diff u (suc s) t → Diff (untold s u t) t t
+unfolding untold
+none_untold s u t e = let d = sum e (difference (natural t) (natural (suc s))) in record { is = omega arith }
+
+even_gap : (b : Book) (t k : ℕ) → Even b t → Even (tell_gap b k) (t + k)
+unfolding tell_gap
+even_gap closed t k e = tt
+even_gap (opened s u told od) t k e = let d = difference e.1 (natural k) in (e.0, record { is = omega arith })
+
+even_on : (b : Book) (t own : ℕ) (v : Judgement) → Even b t → InPlace v own t → Even (enter b own v) (place_behind v t)
+unfolding enter count_place
+even_on b t own Lost e w = subst (Even (tell_gap b 1)) (omega arith) (even_gap b t 1 e)
+even_on b t own (Refuse k) e w = e
+even_on closed t own (Counts k) e w = tt
+even_on (opened s u told od) t own (Counts k) e w =
+    rw w (let d = none_untold s u t e.1 in (join e.0 (none (untold s u t) d), record { is = omega arith }))
+even_on b t own (Takes x) e w = (refl, record { is = omega arith })
+
+-- what comes at a place of such a list, by the book before it
+record Stands (g : Board) (b : Book) (a : Arrival) (own : ℕ) : Type 0 where
+  place : ℕ
+  even : Even b place
+  here : InPlace (verdict_at g b a) own place
+
+stands : (g : Board) (b : Book) (place : ℕ) → Even b place → (before after : List Call) (own : ℕ) (a : Arrival)
+    → AllTold g b place (before ++ at own a ∷ after) → Stands g (book_after g b before) a own
+unfolding book_after enter_call
+stands g b place e [] after own a w = record { place = place; even = e; here = w.0 }
+stands g b place e (at p x ∷ before) after own a w =
+    stands g (enter b p (verdict_at g b x)) (place_behind (verdict_at g b x) place) (even_on b place p (verdict_at g b x) e w.0) before after own a w.1
+stands g b place e (gap k ∷ before) after own a w = stands g (tell_gap b k) (place + k) (even_gap b place k e) before after own a w
+
+module _ (A : Adapter) (g : Board) (calls : List Call) (r : ToldRun A g calls) (before after : List Call) (t : ℕ) (a : Arrival)
+    (e : calls ≡ before ++ at t a ∷ after) where
+  abbrev b : Book
+  b = book_after g closed before
+
+  abbrev v : Judgement
+  v = verdict_at g b a
+
+  abbrev answer : Reply Report
+  answer = (hear (slave_after (begun g) before) a).reply
+
+  here : Stands g b a t
+  here = stands g closed r.first tt before after t a (subst (AllTold g closed r.first) e r.told)
+
+  -- where the book is open and the packet counts, nothing is untold, and all was told exactly
+  record Exact (s : ℕ) (u : ℤ) (told : Bool) : Type 0 where
+    none_left : Diff (untold s u t) t t
+    all_told : told ≡ true
+
+  exact_at : (s : ℕ) (u : ℤ) (told : Bool) (od : ℤ) → b ≡ opened s u told od → t ≡ here.place → Exact s u told
+  exact_at s u told od o p =
+      let h : Even (opened s u told od) t = (rw (o, ← p) at here.even) in
+      record { none_left = none_untold s u t h.1; all_told = h.0 }
+
+  exact : (s : ℕ) (u : ℤ) (told : Bool) (od : ℤ) → b ≡ opened s u told od → t ≡ here.place → told_exactly b t ≡ true
+  exact s u told od o p =
+      let x = exact_at s u told od o p in
+      ap (λ (c : Book). told_exactly c t) o ∙ join x.all_told (none (untold s u t) x.none_left)
+
+  some_n : 0 < g.n
+  some_n = some_packets g r.run.accepted
+
+  stands_here : (w : Judgement) → v ≡ w → InPlace w t here.place
+  stands_here w q = subst (λ (x : Judgement). InPlace x t here.place) q here.here
+
+  label_where_told : LabelWhereTold g b t v answer
+  label_where_told k q s u told od o =
+      let x = exact_at s u told od o (stands_here (Counts k) q) in
+      (sentences A).elsewhere g calls r.run before after t a e k q s u told od o
+      ∙ ap some (sym (label_behind g.n some_n (untold s u t) x.none_left))
+
+  -- the reply by the verdict
+  right : (w : Judgement) → v ≡ w → RightReply g A b t w answer
+  right w q = subst (λ (x : Judgement). RightReply g A b t x answer) q (((demand_3 A).followed g calls r.run).answers before after (at t a) e)
+
+  no_slip : NoSlip g b t v answer
+  no_slip m = by_verdict v refl
+    where
+      apart : slip ≡ absent → ⊥
+      apart d = let z : ◌≡◌ {A = ℕ} 0 1 = cc in omega arith
+
+      by_verdict : (w : Judgement) → v ≡ w → ⊥
+      by_verdict Lost q = apart (sym m ∙ ap notice_in (right Lost q))
+      by_verdict (Refuse k) q = apart (sym m ∙ ap notice_in (right (Refuse k) q))
+      by_verdict (Counts zero) q = apart (sym m ∙ has_notice g A b t answer (right (Counts zero) q))
+      by_verdict (Counts (suc k)) q = let d : slip ≡ ignored (suc k) = sym m ∙ has_notice g A b t answer (right (Counts (suc k)) q) in let z : ◌≡◌ {A = ℕ} 0 1 = cc in omega arith
+      by_verdict (Takes x) q = by_book b refl
+        where
+          by_book : (c : Book) → b ≡ c → ⊥
+          by_book closed o = let d : slip ≡ taken = sym m ∙ has_notice g A b t answer (right (Takes x) q) ∙ ap (λ (c : Book). slip_by g.n c t) o in let z : ◌≡◌ {A = ℕ} 0 1 = cc in omega arith
+          by_book (opened s u told od) o =
+              let h = exact_at s u told od o (stands_here (Takes x) q) in
+              ((sentences A).slips g calls r.run before after t a e x q s u told od o).0 m (residue_only some_n h.none_left 0 some_n (ap (λ (i : ℕ). i % g.n) (omega arith)))
+
+  time_where_released : TimeWhereReleased A g b t v answer
+  time_where_released p x m = by_book b refl
+    where
+      by_book : (c : Book) → b ≡ c → (p ≡ g.profile) × Timed g.n (second p) A t x.reference
+      by_book closed o =
+          absurd (eqb-false _ _ (hunts g A calls r.run before (at t a ∷ after) e o) (heard_due (slave_after (begun g) before) a p (released x) m).locked)
+      by_book (opened s u told od) o = by_verdict v refl
+        where
+          by_verdict : (w : Judgement) → v ≡ w → (p ≡ g.profile) × Timed g.n (second p) A t x.reference
+          by_verdict Lost q = absurd (unmarked_apart p (released x) (sym (ap mark_in (right Lost q)) ∙ m))
+          by_verdict (Refuse k) q = absurd (unmarked_apart p (released x) (sym (ap mark_in (right (Refuse k) q)) ∙ m))
+          by_verdict (Counts k) q = (sentences A).times g calls r.run before after t a e p x m (exact s u told od o (stands_here (Counts k) q))
+          by_verdict (Takes y) q = (sentences A).times g calls r.run before after t a e p x m (exact s u told od o (stands_here (Takes y) q))
+
+released_behind : (A : Adapter) (g : Board) (calls : List Call) (t p : ℕ) (x : Times) → ToldRun A g calls → ReleasedAt g calls t p x
+    → (p ≡ g.profile) × Timed g.n (second g.profile) A t x.reference
+released_behind A g calls t p x r m =
+    let k = time_where_released A g calls r m.before m.after t m.arrival m.call p x (ap mark_in m.counted ∙ m.mark) in
+    (k.0, subst (λ (q : ℕ). Timed g.n (second q) A t x.reference) k.0 k.1)
+
+pub all_told_agree : (A : Adapter) → AllToldAgree A
+all_told_agree A =
+    record {
+      labels = label_where_told A;
+      slips = no_slip A;
+      times = time_where_released A;
+      two_slaves = one_time_of A _ (λ g calls t p x m. released_behind A g calls t p x m.0 m.1);
+    }
