@@ -32,7 +32,11 @@ use Rattle.run.proofs.Sentences.{has_notice, sentences}
 
 -- ---- an empty packet and a gap of one
 
--- two answers of one number that leave one slave, also behind one choice
+tick_unread : (s : Slave) (tick other : ℕ) → packet_of s [] tick ≡ packet_of s [] other
+unfolding packet_of step_of
+tick_unread s tick other = refl
+
+-- two answers of one number, or that leave one slave, behind one choice
 choice_slave : {X Y : Type 0} (b : Bool) (x y : Result X) (x' y' : Result Y) → x.slave ≡ x'.slave → y.slave ≡ y'.slave → (cond b x y).slave ≡ (cond b x' y').slave
 choice_slave true x y x' y' e f = e
 choice_slave false x y x' y' e f = f
@@ -120,6 +124,7 @@ module _ (g : Board) where
 pub one_by_gaps : OneByGaps
 one_by_gaps =
     record {
+      tick_unread = tick_unread;
       one_slave = one_slave;
       one_number = one_number;
       slaves = slaves;

@@ -30,9 +30,11 @@ unfoldable pub by_gaps : List Call → List Call
 by_gaps [] = []
 by_gaps (c ∷ cs) = by_gap c ∷ by_gaps cs
 
--- an empty packet and a gap of one leave the same slave, whatever it was, and 15 for the same ones. So two slaves that begin as one, one behind a card and
--- one told by gaps, are one after each call, and every call that both get has one reply; both are in a run, or neither, and one book is theirs
+-- an empty packet and a gap of one leave the same slave, whatever it was, and 15 for the same ones; its tick does not matter. So two slaves that begin as
+-- one, one behind a card and one told by gaps, are one after each call, and every call that both get has one reply; both are in a run, or neither, and one
+-- book is theirs
 pub record OneByGaps : Type 0 where
+  pub tick_unread : (s : Slave) (tick other : ℕ) → packet_of s [] tick ≡ packet_of s [] other
   pub one_slave : (s : Slave) (tick : ℕ) → (packet_of s [] tick).slave ≡ (gap_of s 1).slave
   pub one_number : (s : Slave) (tick : ℕ) → number_of (packet_of s [] tick).reply ≡ number_of (gap_of s 1).reply
   pub slaves : (s : Slave) (calls : List Call) → slave_after s (by_gaps calls) ≡ slave_after s calls

@@ -33,4 +33,4 @@ pub other_clock : (s : Slave) (p : List ℕ) (t : Tick) → sound s ≡ true →
 other_clock s p t h l y d =
     let none : tick_on s.board.profile t ≡ no_tick = ap (λ (b : Bool). cond b t.count no_tick) d in
     let three = arrival_3 s.board.profile p no_tick l y (beyond s.board.profile) ∙ sym (ready_is s p no_tick h) in
-    ap (packet_of s p) none ∙ sym (call_refused s p no_tick _ 3 three (λ e. omega arith) ∙ packet_is s p no_tick)
+    ap (packet_of s p) none ∙ sym (call_refused s p no_tick _ 3 three (λ e. omega arith) ∙ packet_is s p no_tick (ap (λ (k : ℕ). eqb k 0) l))
