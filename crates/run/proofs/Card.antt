@@ -1,14 +1,13 @@
 -- Behind a radio link card: an empty packet is a gap of one, and where all that is lost is told in its place, the book has nothing untold.
 use mathlib.Core.Path.{◌≡◌, refl, sym, ap, ◌∙◌, subst}
-use mathlib.Core.Bool.{Bool, true, false, cond, ◌&&◌, false≢true}
+use mathlib.Core.Bool.{Bool, true, false, cond}
 use mathlib.Core.List.{List, [], ◌∷◌, ◌++◌}
 use mathlib.Core.Option.{some}
 use Prim.Native.Nat.{ℕ, zero, suc, ◌+◌, ◌%◌, ◌<◌}
 use native.Mathlib.Omega.{arith}
 use lib.IntN.{ℤ, pos, negsuc}
-use lib.Dec.{eqb}
 use borrow.Author.Tests.{eqb-false}
-use Rattle.wire.specs.Reply.{Reply, refused, given, number_of}
+use Rattle.wire.specs.Reply.{Reply, number_of}
 use Rattle.wire.proofs.Tests.{join}
 use Rattle.times.specs.Release.{Times, released}
 use Rattle.times.proofs.Whole.{Diff, natural, sum, difference, residue_only}
@@ -18,12 +17,12 @@ use Rattle.state.specs.declared.Board.{Board}
 use Rattle.state.specs.declared.Slave.{Slave}
 use Rattle.state.proofs.Sound.{some_packets}
 use Rattle.judging.specs.Judgement.{Judgement, Lost, Refuse, Counts, Takes}
-use Rattle.slave.specs.Answer.{absent, taken, slip, ignored, due, Report, notice_in, mark_in, Result}
+use Rattle.slave.specs.Answer.{absent, taken, slip, ignored, Report, notice_in, mark_in, Result}
 use Rattle.slave.specs.Calls.{step_of, packet_of, gap_of}
 use Rattle.slave.proofs.Due.{unmarked_apart}
 use Rattle.run.specs.Adapter.{Adapter}
 use Rattle.run.specs.Book.{Form, Arrival, packet, numbers, Call, at, gap, judged, Book, closed, opened, verdict_at, untold, count_place, tell_gap, enter, enter_call, book_after}
-use Rattle.run.specs.Run.{hear, leave, slave_after, begun, counting, places, GenuineCall, AllGenuine, Run}
+use Rattle.run.specs.Run.{hear, leave, slave_after, begun, counting, places, GenuineCall, AllGenuine}
 use Rattle.run.specs.Card.{by_gap, by_gaps, OneByGaps, InPlace, place_behind, AllTold, ToldRun, LabelWhereTold, NoSlip, TimeWhereReleased, AllToldAgree}
 use Rattle.run.specs.Claim.{slip_by, told_exactly, Timed, ReleasedAt, RightReply}
 use Rattle.run.proofs.Congruence.{label_behind}
@@ -167,18 +166,34 @@ even_on (opened s u told od) t own (Counts k) e w =
     rw w (let d = none_untold s u t e.1 in (join e.0 (none (untold s u t) d), record { is = omega arith }))
 even_on b t own (Takes x) e w = (refl, record { is = omega arith })
 
--- what comes at a place of such a list, by the book before it
-record Stands (g : Board) (b : Book) (a : Arrival) (own : ℕ) : Type 0 where
+-- before the first notice taken nothing is asked
+even_first : (own : ℕ) (v : Judgement) → Even (enter closed own v) (suc own)
+unfolding enter count_place tell_gap
+even_first own Lost = tt
+even_first own (Refuse k) = tt
+even_first own (Counts k) = tt
+even_first own (Takes x) = (refl, record { is = omega arith })
+
+-- what comes at a place of such a list while the book is open
+record Next (g : Board) (b : Book) (a : Arrival) (own : ℕ) : Type 0 where
   place : ℕ
   even : Even b place
   here : InPlace (verdict_at g b a) own place
 
+abbrev IfOpen : Board → Book → Arrival → ℕ → Type 0
+IfOpen g closed a own = Unit {0}
+IfOpen g (opened s u told od) a own = Next g (opened s u told od) a own
+
 stands : (g : Board) (b : Book) (place : ℕ) → Even b place → (before after : List Call) (own : ℕ) (a : Arrival)
-    → AllTold g b place (before ++ at own a ∷ after) → Stands g (book_after g b before) a own
+    → AllTold g b place (before ++ at own a ∷ after) → IfOpen g (book_after g b before) a own
 unfolding book_after enter_call
-stands g b place e [] after own a w = record { place = place; even = e; here = w.0 }
-stands g b place e (at p x ∷ before) after own a w =
-    stands g (enter b p (verdict_at g b x)) (place_behind (verdict_at g b x) place) (even_on b place p (verdict_at g b x) e w.0) before after own a w.1
+stands g closed place e [] after own a w = tt
+stands g (opened s u told od) place e [] after own a w = record { place = place; even = e; here = w.0 }
+stands g closed place e (at p x ∷ before) after own a w =
+    stands g (enter closed p (verdict_at g closed x)) (suc p) (even_first p (verdict_at g closed x)) before after own a w
+stands g (opened s u told od) place e (at p x ∷ before) after own a w =
+    let v = verdict_at g (opened s u told od) x in
+    stands g (enter (opened s u told od) p v) (place_behind v place) (even_on (opened s u told od) place p v e w.0) before after own a w.1
 stands g b place e (gap k ∷ before) after own a w = stands g (tell_gap b k) (place + k) (even_gap b place k e) before after own a w
 
 module _ (A : Adapter) (g : Board) (calls : List Call) (r : ToldRun A g calls) (before after : List Call) (t : ℕ) (a : Arrival)
@@ -192,35 +207,27 @@ module _ (A : Adapter) (g : Board) (calls : List Call) (r : ToldRun A g calls) (
   abbrev answer : Reply Report
   answer = (hear (slave_after (begun g) before) a).reply
 
-  here : Stands g b a t
-  here = stands g closed r.first tt before after t a (subst (AllTold g closed r.first) e r.told)
-
-  -- where the book is open and the packet counts, nothing is untold, and all was told exactly
-  record Exact (s : ℕ) (u : ℤ) (told : Bool) : Type 0 where
-    none_left : Diff (untold s u t) t t
-    all_told : told ≡ true
-
-  exact_at : (s : ℕ) (u : ℤ) (told : Bool) (od : ℤ) → b ≡ opened s u told od → t ≡ here.place → Exact s u told
-  exact_at s u told od o p =
-      let h : Even (opened s u told od) t = (rw (o, ← p) at here.even) in
-      record { none_left = none_untold s u t h.1; all_told = h.0 }
-
-  exact : (s : ℕ) (u : ℤ) (told : Bool) (od : ℤ) → b ≡ opened s u told od → t ≡ here.place → told_exactly b t ≡ true
-  exact s u told od o p =
-      let x = exact_at s u told od o p in
-      ap (λ (c : Book). told_exactly c t) o ∙ join x.all_told (none (untold s u t) x.none_left)
-
   some_n : 0 < g.n
   some_n = some_packets g r.run.accepted
 
-  stands_here : (w : Judgement) → v ≡ w → InPlace w t here.place
-  stands_here w q = subst (λ (x : Judgement). InPlace x t here.place) q here.here
+  module _ (s : ℕ) (u : ℤ) (told : Bool) (od : ℤ) (o : b ≡ opened s u told od) where
+    next : Next g (opened s u told od) a t
+    next = subst (λ (c : Book). IfOpen g c a t) o (stands g closed 0 tt before after t a (subst (AllTold g closed 0) e r.told))
+
+    stands_here : (w : Judgement) → v ≡ w → InPlace w t next.place
+    stands_here w q = subst (λ (x : Judgement). InPlace x t next.place) (sym (ap (λ (c : Book). verdict_at g c a) o) ∙ q) next.here
+
+    -- a packet that counts finds nothing untold, and all told exactly
+    none_here : t ≡ next.place → Diff (untold s u t) t t
+    none_here p = none_untold s u t (rw (← p) at next.even.1)
+
+    exact_here : t ≡ next.place → told_exactly b t ≡ true
+    exact_here p = ap (λ (c : Book). told_exactly c t) o ∙ join next.even.0 (none (untold s u t) (none_here p))
 
   label_where_told : LabelWhereTold g b t v answer
   label_where_told k q s u told od o =
-      let x = exact_at s u told od o (stands_here (Counts k) q) in
       (sentences A).elsewhere g calls r.run before after t a e k q s u told od o
-      ∙ ap some (sym (label_behind g.n some_n (untold s u t) x.none_left))
+      ∙ ap some (sym (label_behind g.n some_n (untold s u t) (none_here s u told od o (stands_here s u told od o (Counts k) q))))
 
   -- the reply by the verdict
   right : (w : Judgement) → v ≡ w → RightReply g A b t w answer
@@ -242,8 +249,9 @@ module _ (A : Adapter) (g : Board) (calls : List Call) (r : ToldRun A g calls) (
           by_book : (c : Book) → b ≡ c → ⊥
           by_book closed o = let d : slip ≡ taken = sym m ∙ has_notice g A b t answer (right (Takes x) q) ∙ ap (λ (c : Book). slip_by g.n c t) o in let z : ◌≡◌ {A = ℕ} 0 1 = cc in omega arith
           by_book (opened s u told od) o =
-              let h = exact_at s u told od o (stands_here (Takes x) q) in
-              ((sentences A).slips g calls r.run before after t a e x q s u told od o).0 m (residue_only some_n h.none_left 0 some_n (ap (λ (i : ℕ). i % g.n) (omega arith)))
+              let d = none_here s u told od o (stands_here s u told od o (Takes x) q) in
+              ((sentences A).slips g calls r.run before after t a e x q s u told od o).0 m
+              (residue_only some_n d 0 some_n (ap (λ (i : ℕ). i % g.n) (omega arith)))
 
   time_where_released : TimeWhereReleased A g b t v answer
   time_where_released p x m = by_book b refl
@@ -256,8 +264,8 @@ module _ (A : Adapter) (g : Board) (calls : List Call) (r : ToldRun A g calls) (
           by_verdict : (w : Judgement) → v ≡ w → (p ≡ g.profile) × Timed g.n (second p) A t x.reference
           by_verdict Lost q = absurd (unmarked_apart p (released x) (sym (ap mark_in (right Lost q)) ∙ m))
           by_verdict (Refuse k) q = absurd (unmarked_apart p (released x) (sym (ap mark_in (right (Refuse k) q)) ∙ m))
-          by_verdict (Counts k) q = (sentences A).times g calls r.run before after t a e p x m (exact s u told od o (stands_here (Counts k) q))
-          by_verdict (Takes y) q = (sentences A).times g calls r.run before after t a e p x m (exact s u told od o (stands_here (Takes y) q))
+          by_verdict (Counts k) q = (sentences A).times g calls r.run before after t a e p x m (exact_here s u told od o (stands_here s u told od o (Counts k) q))
+          by_verdict (Takes y) q = (sentences A).times g calls r.run before after t a e p x m (exact_here s u told od o (stands_here s u told od o (Takes y) q))
 
 released_behind : (A : Adapter) (g : Board) (calls : List Call) (t p : ℕ) (x : Times) → ToldRun A g calls → ReleasedAt g calls t p x
     → (p ≡ g.profile) × Timed g.n (second g.profile) A t x.reference

@@ -1,11 +1,11 @@
 -- Small runs, computed over the definitions: the premises of demand 3 can be met, marks are released, and what it does not claim can be wrong.
 use mathlib.Core.Path.{◌≡◌, refl}
-use mathlib.Core.Bool.{Bool, true, false}
+use mathlib.Core.Bool.{Bool, true, false, cond}
 use mathlib.Core.List.{List, [], ◌∷◌}
 use mathlib.Core.Option.{Option, none, some}
 use Prim.Native.Nat.{ℕ, ◌+◌, ◌*◌, ◌/◌, ◌%◌}
 use native.Mathlib.Omega.{arith}
-use lib.Dec.{lit≤}
+use lib.Dec.{eqb, lit≤}
 use lib.IntN.{ℤ, pos, negsuc}
 use lib.ListN.{replicate, take}
 use Rattle.wire.specs.Reply.{Reply, refused, given}
@@ -30,7 +30,9 @@ use Rattle.run.specs.Book.{by_value, in_place, Arrival, packet, numbers, Call, a
 use Rattle.run.specs.Run.{hear, leave, slave_after, begun, places, Run}
 use Rattle.run.specs.Claim.{told_exactly, Timed}
 use Rattle.run.specs.Late.{Lengthened, mark_behind, Held}
+use Rattle.run.specs.Card.{by_gaps, ToldRun}
 use Rattle.run.proofs.Sentences.{sentences}
+use Rattle.run.proofs.Card.{all_told_agree}
 use Rattle.run.proofs.Late.{mended}
 
 -- profile 1; in each cadence a notice at label 620. The first mark is after the pulse, by 42 units
@@ -178,6 +180,30 @@ mip_replies =
     ∷ said (some 0) absent (due 0 (released (record { reference = 100; emission = 95; modulation = 9_999_895; wait = pos 395 })))
     ∷ said (some 2015) (ignored 9) unmarked ∷ said (some 0) absent untimed ∷ []
 
+-- behind a radio link card: two packets are lost, and the mark has the adapter's time. An empty packet's tick is not read
+abbrev lost : ℕ → Call
+lost t = at t (packet in_place [] 19_392_658)
+
+abbrev card_calls : List Call
+card_calls = note 3 620 1 (pos 0) ∷ lost 621 ∷ plain 622 2 ∷ at 623 (packet by_value [] 3) ∷ plain 624 19_392_650 ∷ []
+
+abbrev card_replies : List (Reply Report)
+card_replies =
+    said (some 620) taken unmarked ∷ said none absent unmarked ∷ said (some 622) absent unmarked ∷ said none absent unmarked
+    ∷ said (some 0) absent (in_bits 42 42 22 30) ∷ []
+
+-- and with the mark lost: its notice is gone, and the next notice is no slip. In the cadence behind it the adapter has its notice at label 2
+abbrev C : Adapter
+C c = some (record { label = cond (eqb c 0) 620 2; sts = sts c; md = 100 })
+
+abbrev lost_mark_calls : List Call
+lost_mark_calls = note 3 620 1 (pos 0) ∷ lost 621 ∷ lost 622 ∷ lost 623 ∷ lost 624 ∷ plain 625 5 ∷ note 621 626 6 (pos 0) ∷ []
+
+abbrev lost_mark_replies : List (Reply Report)
+lost_mark_replies =
+    said (some 620) taken unmarked ∷ said none absent unmarked ∷ said none absent unmarked ∷ said none absent unmarked ∷ said none absent unmarked
+    ∷ said (some 1) absent unmarked ∷ said (some 2) taken unmarked ∷ []
+
 pub computed :
     Computed A g told_calls told_replies (false ∷ false ∷ true ∷ true ∷ true ∷ [])
     × Computed A g slip_calls slip_replies (false ∷ true ∷ false ∷ false ∷ true ∷ [])
@@ -187,6 +213,8 @@ pub computed :
     × Computed Z g mark_calls mark_replies (false ∷ true ∷ true ∷ [])
     × Computed A h other_calls other_replies (false ∷ true ∷ [])
     × Computed B k mip_calls mip_replies (false ∷ true ∷ true ∷ true ∷ [])
+    × Computed A g card_calls card_replies (false ∷ true ∷ true ∷ true ∷ true ∷ [])
+    × Computed C g lost_mark_calls lost_mark_replies (false ∷ true ∷ true ∷ true ∷ true ∷ true ∷ true ∷ [])
 unfolding places enter_call verdict_at judged enter count_place tell_gap untold hear leave start_of packet_of numbers_of gap_of sound settings_kept admits is_mega_frame at_some_rate second parts_fit hunting_fits is_unset is_uncounted is_zero locked_fits frequency_fits index_fits waiting_fits is_nothing delay_kept delay_fits delay_fits_a110 within arrival_refusal carries taken_refusal limited judge_mip judge_arrived judge_given step_of counted passed unheard took mark_at mark_taken notice_taken release_at due_of wrap modulation link_delay gapped section_refusal settings_of entries_in functions_of functions_in length_fits set_by addressed register register_from bits_in bit_in
 computed = (
   record {
@@ -229,6 +257,16 @@ computed = (
     replied = refl;
     booked = refl;
   },
+  record {
+    run = record { accepted = refl; rising = (lit≤ tt, (lit≤ tt, (lit≤ tt, tt))); genuine = (record { points = refl; here = refl }, (tt, (tt, (tt, (tt, tt))))) };
+    replied = refl;
+    booked = refl;
+  },
+  record {
+    run = record { accepted = refl; rising = (lit≤ tt, (lit≤ tt, (lit≤ tt, tt))); genuine = (record { points = refl; here = refl }, (tt, (tt, (tt, (tt, (tt, (record { points = refl; here = refl }, tt))))))) };
+    replied = refl;
+    booked = refl;
+  },
 )
 
 -- ---- the sentences of demand 3 at places of these runs: their premises can be met, and they say what was computed
@@ -254,6 +292,28 @@ read = (
 
     slip_run : Run g A slip_calls
     slip_run = computed.1.run
+
+-- ---- behind the card all that is lost is told in its place, so that the mark's time needs no book. A slave told by gaps has the same replies to all other
+-- calls
+
+abbrev told_by_gaps : List Call
+told_by_gaps = note 3 620 1 (pos 0) ∷ gap 1 ∷ gap 1 ∷ gap 1 ∷ gap 1 ∷ plain 625 5 ∷ note 621 626 6 (pos 0) ∷ []
+
+pub told_in_place :
+    ToldRun A g card_calls × ToldRun C g lost_mark_calls × ToldRun A g told_calls × (by_gaps lost_mark_calls ≡ told_by_gaps)
+    × (replies (begun g) told_by_gaps ≡ said (some 620) taken unmarked ∷ said (some 1) absent unmarked ∷ said (some 2) taken unmarked ∷ [])
+unfolding by_gaps enter_call verdict_at judged enter count_place tell_gap untold hear leave start_of packet_of numbers_of gap_of sound settings_kept admits second parts_fit hunting_fits is_unset is_uncounted is_zero locked_fits frequency_fits index_fits waiting_fits is_nothing delay_kept delay_fits delay_fits_a110 within arrival_refusal carries taken_refusal limited judge_arrived judge_given step_of counted passed unheard took mark_at mark_taken notice_taken gapped
+told_in_place = (
+  record { run = computed.8.run; told = (tt, (refl, (tt, (refl, tt)))) },
+  record { run = computed.9.run; told = (tt, (tt, (tt, (tt, (refl, (refl, tt)))))) },
+  record { run = computed.0.run; told = (refl, (tt, (refl, tt))) },
+  refl,
+  refl,
+)
+
+pub behind_card : Timed 624 19_392_658 A 624 42
+unfolding hear leave start_of packet_of numbers_of sound settings_kept admits second parts_fit hunting_fits is_unset is_uncounted is_zero locked_fits frequency_fits index_fits waiting_fits is_nothing delay_kept delay_fits delay_fits_a110 within arrival_refusal carries taken_refusal limited judge_arrived judge_given step_of counted passed unheard took mark_at release_at due_of wrap link_delay gapped slave_after
+behind_card = ((all_told_agree A).times g card_calls told_in_place.0 (take 4 card_calls) _ 624 _ refl 1 _ refl).1
 
 -- ---- late marks, and the same with MD longer by as much
 

@@ -1,6 +1,6 @@
 -- A listener behind a radio link card counts as having been told (document 02, Paper 5). An empty packet leaves what a gap of one leaves; and where all that
 -- is lost is told in its place, by empty packets or by gaps, what demand 3 says needs no book.
-use Rattle.std.specs.Prelude.{ℕ, suc, ◌+◌, ◌≡◌, Bool, List, [], ◌∷◌, ◌++◌, ℤ}
+use Rattle.std.specs.Prelude.{ℕ, suc, ◌+◌, ◌≡◌, Bool, List, [], ◌∷◌, ℤ}
 use Rattle.std.proofs.Math.Option.{some}
 use Rattle.wire.specs.Reply.{number_of}
 use Rattle.times.specs.Release.{Times, released}
@@ -46,30 +46,32 @@ pub record OneByGaps : Type 0 where
 
 -- ---- all that is lost is told in its place
 
--- what comes for place t by its verdict: a packet that counts is the one of that place
+-- what comes when place t is next, by its verdict: a packet that counts is the one of that place
 abbrev pub InPlace : Judgement → (own t : ℕ) → Type 0
 InPlace Lost own t = Unit {0}
 InPlace (Refuse k) own t = Unit {0}
 InPlace (Counts k) own t = own ≡ t
 InPlace (Takes x) own t = own ≡ t
 
--- the place that is next after it: one refused with K is still to be told
+-- the place that is next after it: the one of a packet that is refused with K is still to be told
 abbrev pub place_behind : Judgement → ℕ → ℕ
 place_behind Lost t = suc t
 place_behind (Refuse k) t = t
 place_behind (Counts k) t = suc t
 place_behind (Takes x) t = suc t
 
--- from place t on
+-- place t is next; nothing is asked before the first notice taken
 abbrev pub AllTold : Board → Book → ℕ → List Call → Type 0
 AllTold g b t [] = Unit {0}
-AllTold g b t (at own a ∷ cs) = InPlace (verdict_at g b a) own t × AllTold g (enter_call g b (at own a)) (place_behind (verdict_at g b a) t) cs
+AllTold g closed t (at own a ∷ cs) = AllTold g (enter_call g closed (at own a)) (suc own) cs
+AllTold g (opened s u told od) t (at own a ∷ cs) =
+    InPlace (verdict_at g (opened s u told od) a) own t
+    × AllTold g (enter_call g (opened s u told od) (at own a)) (place_behind (verdict_at g (opened s u told od) a) t) cs
 AllTold g b t (gap k ∷ cs) = AllTold g (enter_call g b (gap k)) (t + k) cs
 
 pub record ToldRun (A : Adapter) (g : Board) (calls : List Call) : Type 0 where
   pub run : Run g A calls
-  pub first : ℕ
-  pub told : AllTold g closed first calls
+  pub told : AllTold g closed 0 calls
 
 -- from the first notice taken on, the label of every counted packet is the adapter's; demand 3 says so where a notice is taken
 abbrev pub LabelWhereTold : Sentence
