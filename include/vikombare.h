@@ -47,7 +47,7 @@ extern "C" {
 
 /* The version of this interface. MAJOR rises where a program has to be changed or compiled anew, MINOR where it has not: something is added, or a call
  * gives another value. 2.1: a time that was a whole second is 0. 3.0: a late mark says how late it is, and its kind in which unit. 3.1: to
- * vikombare_packet, a packet of no bytes is one that was lost. */
+ * vikombare_packet, a packet of no bytes is one that was lost; before, it was refused with 1. */
 #define VIKOMBARE_VERSION_MAJOR 3
 #define VIKOMBARE_VERSION_MINOR 1
 
@@ -63,7 +63,7 @@ extern "C" {
 /* The numbers that a call refuses with: the first that applies, in the order given at each call. The numbers are document 01's. */
 enum {
     VIKOMBARE_ACCEPTED = 0,
-    VIKOMBARE_REFUSED_LENGTH = 1,             /* the packet does not have 188 bytes; vikombare_packet takes one of no bytes too: it was lost */
+    VIKOMBARE_REFUSED_LENGTH = 1,             /* the packet does not have 188 bytes; for vikombare_packet, nor 0, which is a packet that was lost */
     VIKOMBARE_REFUSED_SYNC_BYTE = 2,          /* byte 0 of the packet is not 0x47 */
     VIKOMBARE_REFUSED_TICK = 3,               /* the arrival's count is a whole second of the slave's clock or more; for vikombare_packet, also a tick that
                                                  says the other clock */
@@ -187,7 +187,7 @@ typedef struct {
 
 /* The kinds of mark. The delay from the adapter to the board is taken to be under a second: a mark that arrives later than that is not found late. */
 enum {
-    VIKOMBARE_MARK_NONE = 0,          /* the packet is no mark, or the slave has no label */
+    VIKOMBARE_MARK_NONE = 0,          /* the packet is no mark, or the slave has no label, or the packet is an empty one, also in a mark's place */
     VIKOMBARE_MARK_UNTIMED = 1,       /* a mark without a notice, or one that a slip or the first notice led to: its time is not known */
     VIKOMBARE_MARK_DVB_LATE = 2,      /* a mark that arrived after its modulation time (14): it has passed, its notice is cleared. mark.dvb_late is by how
                                          much: with a maximum delay (MD) longer by so much, where 11 and 13 allow it, it would have had a wait of 0 */
@@ -217,7 +217,7 @@ enum {
     VIKOMBARE_NOTICE_IGNORED = 3 /* `ignored` says why: 4, 6 to 13 */
 };
 
-/* The reply to a packet or a numbers notice. What is not there is 0 or false; a refused call has its number alone. */
+/* The reply to a packet or a numbers notice. What is not there is 0 or false; a refused call has its number alone, and an empty packet number 0 alone. */
 typedef struct {
     uint8_t number; /* 0, or why the whole call is refused; then the packet does not count */
     bool has_label;
@@ -287,13 +287,16 @@ VIKOMBARE_HOLDS(sizeof(vikombare_reading) == 32 && offsetof(vikombare_reading, n
 VIKOMBARE_KEEP uint8_t vikombare_dvb_start(vikombare_slave *slave, uint16_t n, uint16_t site, vikombare_steps tad);
 VIKOMBARE_KEEP uint8_t vikombare_a110_start(vikombare_slave *slave, uint16_t n, uint16_t site, vikombare_periods tad);
 
-/* Takes a packet with its arrival tick, and updates the slave in its own memory. Order: 15 (leaves the cold slave), a length of 0, then 1, 2, 3 (each
- * leaves the slave as it was, and the packet does not count). A length of 0, with any pointer that is not null, is what a link card delivers in the
- * place of a packet that was lost. It does to the slave what vikombare_gap of 1 does, so tell a lost packet by one of them and not by both; the arrival
- * is not read, and the reply has no label, notice, mark or place. Else the packet counts. In either profile a packet whose error indicator is set has its notice ignored with
- * 4, whatever its PID. Of the others, profile 0 reads those of PID 0x0015 as notices, which are taken or ignored with the first of 6 to 13; all else
- * is plain, and in profile 1 every packet is. A hunting slave has no label and no marks, and changes only when a notice is taken; its reply still has
- * the number that a notice is ignored with. A mark is released with the settings that were in force before a notice on the same packet. */
+/* Takes a packet with its arrival tick, and updates the slave in its own memory. Order: 15 (leaves the cold slave); then, unless the length is 0, 1, 2, 3
+ * (each leaves the slave as it was, and the packet does not count). Else a packet of 188 bytes counts. In either profile a packet whose error indicator is
+ * set has its notice ignored with 4, whatever its PID. Of the others, profile 0 reads those of PID 0x0015 as notices, which are taken or ignored with the
+ * first of 6 to 13; all else is plain, and in profile 1 every packet is. A hunting slave has no label and no marks, and changes only when a notice is
+ * taken; its reply still has the number that a notice is ignored with. A mark is released with the settings that were in force before a notice on the
+ * same packet.
+ * A length of 0, with any pointer that is not null, is a packet that was lost: a link card that keeps the rhythm delivers an empty one in its place. It
+ * does to the slave what vikombare_gap of 1 does, so a lost mark takes its notice with it. The arrival is not read, neither its count nor its clock, and
+ * the reply has number 0 and nothing else: no label, notice, mark or place. Hand in no length of 0 for another reason (a timeout, an empty buffer), and
+ * tell a lost packet by one of the two calls, not by both. */
 VIKOMBARE_KEEP vikombare_reply vikombare_packet(vikombare_slave *slave, const uint8_t *packet, size_t length, vikombare_tick arrival);
 
 /* Takes a packet that comes with a notice in numbers, profile 1, in place of vikombare_packet for this packet. Order: 15 (leaves the cold slave), 1, 2, 3,
@@ -303,7 +306,7 @@ VIKOMBARE_KEEP vikombare_reply vikombare_numbers(vikombare_slave *slave, const u
                                                  vikombare_numbers_notice notice);
 
 /* Tells a locked slave that k packets were lost: it counts on, passes the marks among them, and drops a notice whose mark is among them. A hunting slave
- * is unchanged. Order: 15 (leaves the cold slave). Behind a card that delivers an empty packet for each one lost, vikombare_packet tells the slave. */
+ * is unchanged. Order: 15 (leaves the cold slave). What a link card delivers as empty packets goes to vikombare_packet, and is not told here again. */
 VIKOMBARE_KEEP uint8_t vikombare_gap(vikombare_slave *slave, uint16_t k);
 
 /* Saves the slave, which stays as it is, in the first 38 bytes of out; bytes after them are kept. Order: 15, 18; each keeps every byte of out. */

@@ -223,12 +223,13 @@ impl Books {
             return Ok(false);
         }
         if let Judged::Lost = judged {
-            // a gap of one: no place is counted, and nothing is in the reply
-            hold("an empty packet's label, mark and place", (reply.has_label, reply.mark.class(), reply.has_place), (false, 0, false))?;
+            // a gap of one: nothing is in the reply, the slave is left as by a gap, and no place is counted
+            hold("an empty packet's reply", reply, Reply::default())?;
+            hold("the slave behind an empty packet", outcome.slave, (self.code)(&Call::Gap(1), before).slave)?;
             if let Some(open) = &mut listener.book.open {
                 open.u -= 1;
                 saw("empty packet with tick U or more", i64::from(tick >= self.network.adapter.second()));
-                saw("empty packet on the mark", i64::from(step.place % u64::from(self.network.adapter.n) == 0));
+                saw("empty packet on the slave's mark (10) with pending (1)", i64::from(before.pending) + if before.next == 0 { 10 } else { 0 });
             }
             return Ok(false);
         }
@@ -369,7 +370,7 @@ impl Comparison<Runs> {
             3 => std::mem::take(&mut way.owed) + lost,
             _ => lost,
         };
-        // few of them by a card's empty packets, each in the place of one
+        // few of them by a card's empty packets, from the first lost place on
         if told < 8 && self.random.one_in(2) {
             for place in first..first + std::mem::take(&mut told) {
                 let r = &mut self.random;
@@ -503,7 +504,7 @@ fn required() -> Cases {
         (BOOK, "packet in place (0), by value (1)", vec![0, 1]),
         (BOOK, "gap", vec![0, 1]),
         (BOOK, "empty packet with tick U or more", vec![0, 1]),
-        (BOOK, "empty packet on the mark", vec![0, 1]),
+        (BOOK, "empty packet on the slave's mark (10) with pending (1)", vec![0, 1, 10, 11]),
         // 0 none; 1 a number that is no multiple of n, 2 one that is; negative where more was told than lost
         (BOOK, "untold elsewhere", vec![-1, 0, 1, 2]),
         (BOOK, "untold at a notice", vec![-1, 0, 1, 2]),

@@ -292,7 +292,9 @@ impl Comparison<Captures> {
             return Err(self.shortened_capture(&capture, how));
         }
         kinds(&ours, |what, value| self.saw("log", what, value));
-        self.saw("log", "cut to bytes", (capture.len().saturating_sub(SETTINGS) % RECORD) as i64);
+        if !ours.starts_with(b"refused 15") {
+            self.saw("log", "cut to bytes", ((capture.len() - SETTINGS) % RECORD) as i64);
+        }
         Ok(())
     }
 

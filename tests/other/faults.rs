@@ -100,7 +100,7 @@ faults! {
         EmptyUnawake: "an empty packet is not judged by 15",
         EmptyRefused: "an empty packet is refused with 1",
         EmptyTickJudged: "an empty packet's tick is judged",
-        EmptyForeign: "an empty packet is refused with a tick of the other clock",
+        EmptyForeign: "an empty packet with a tick of the other clock is refused",
         EmptyCounted: "an empty packet counts as a null packet",
         EmptyUntimed: "an empty packet on label 0 is an untimed mark",
         EmptyUntold: "an empty packet is no gap",

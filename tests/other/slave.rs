@@ -154,8 +154,7 @@ impl Slave {
         (self, reply)
     }
 
-    /// A packet, over a check register of the caller's choice. Numbers 15, 1, 2, 3 refuse the call; 4, 6 to 13 its notice. An empty one stands for one that
-    /// was lost.
+    /// A packet, over a check register of the caller's choice. Numbers 15, 1, 2, 3 refuse the call; 4, 6 to 13 its notice. An empty one was lost.
     pub fn packet_with(&mut self, register: impl Fn(&[u8]) -> u32, packet: &[u8], tick: u32) -> Result<Reply, u8> {
         if rule(true, EmptyUnawake, !packet.is_empty()) {
             self.awake()?;

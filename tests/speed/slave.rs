@@ -227,6 +227,7 @@ pub fn measure() {
     Calls::new(|k| of_a110(locked(k)), |_| notices::null()).measure("null packet, locked, profile 1", 0, 0);
     Calls::new(due, |_| notices::null()).measure("null packet on a mark", 0, 3);
     Calls::new(|k| of_a110(due(k)), |_| notices::null()).measure("null packet on a mark, profile 1", 0, 3);
+    Calls::new(locked, |_| Vec::new()).measure("empty packet, locked", 0, 0);
     let r = &mut Random(1);
     let fields: Vec<Vec<u8>> = (0..INPUTS).map(|_| full_field(r)).collect();
     for a in [0, 163] {

@@ -130,7 +130,9 @@ fn refusals(v: &mut Vectors) {
         ("a label of n", Slave { next: 2016, ..due }),
     ] {
         v.hand(name, cold);
-        v.packet(&format!("15 before 1 and 3: {name}"), &plain.of_length(0), 10_000_000);
+        v.packet(&format!("15 before 1 and 3: {name}"), &plain.of_length(187), 10_000_000);
+        v.hand(name, cold);
+        v.packet(&format!("15 for an empty packet: {name}"), &plain.of_length(0), 10_000_000);
         v.hand(name, cold);
         v.gap(&format!("15 for a gap of 0: {name}"), 0);
         v.hand(name, cold);
@@ -138,12 +140,12 @@ fn refusals(v: &mut Vectors) {
     }
 }
 
-/// An empty packet in the place of one that was lost, for each kind of slave; a numbers notice has none.
+/// An empty packet in the place of one that was lost, hunting, off the mark and on it, with a notice pending and with none; a numbers notice has none.
 fn empty(v: &mut Vectors) {
     let (null, none) = (null(), Packet { text: String::from("no bytes"), bytes: Vec::new() });
     v.start("behind a card", 0, 2016, 7, 0);
     v.packet("an empty packet, hunting", &none, 10_000_000);
-    v.packet("three packets before the mark", &notice(3, 9_500_000, 700_000, &[]), 5);
+    v.packet("three packets stand before the mark", &notice(3, 9_500_000, 700_000, &[]), 5);
     v.packet("the first is lost", &none, u32::MAX);
     v.packet("the second has its label", &null, 5);
     v.packet("the third is lost", &none, 5);
@@ -156,6 +158,8 @@ fn empty(v: &mut Vectors) {
     v.gap("up to the mark", 2012);
     v.packet("the mark is lost", &none, 9_900_000);
     v.packet("the packet behind it has label 1", &null, 5);
+    v.gap("up to a mark with no notice", 2014);
+    v.packet("a lost mark is not untimed", &none, 5);
     v.start("behind a card, profile 1", 1, 624, 7, 0);
     v.numbers("of index 19", &null, 5, Numbers { index: 19, ..numbers });
     v.packet("mark 19 is lost", &none, 19_392_658);

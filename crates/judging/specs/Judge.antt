@@ -1,4 +1,4 @@
--- How a packet and a numbers notice are judged: refused with a number of K, counted, or counted with its notice taken
+-- How a packet and a numbers notice are judged: lost, refused with a number of K, counted, or counted with its notice taken
 -- (document 01, "Numbers a call can refuse with"). It depends on the start's settings, the settings in force and the call alone.
 use Rattle.std.specs.Prelude.{ℕ, zero, suc, Bool, cond, ◌&&◌, ◌||◌, List, eqb, ltb, length, get_or}
 use Rattle.wire.specs.Reply.{Reply, refused, given, must}
@@ -73,7 +73,7 @@ judge_mip b t p = unless_ignored (section_refusal p) (judge_field b p (settings_
 unfoldable pub judge_arrived : Board → Settings → List ℕ → Judgement
 judge_arrived b t p = cond (eqb (error_indicator p) 0) (cond (carries b.profile p) (judge_mip b t p) (Counts 0)) (Counts 4)
 
--- a packet: an empty one was lost, whatever its tick (document 02, Paper 5). Any other: 1, 2, 3, then 4 and 6 to 13
+-- a packet: an empty one stands for one that was lost, whatever its tick (document 02, Paper 5). Any other: 1, 2, 3, then 4 and 6 to 13
 abbrev pub judge_packet : Board → Settings → List ℕ → ℕ → Judgement
 judge_packet b t p tick = cond (is_empty p) Lost (unless_refused (arrival_refusal b.profile p tick) (judge_arrived b t p))
 

@@ -168,7 +168,7 @@ fn notice_number(n: NoticePart) -> u8
     }
 }
 
-// The report on a counted packet.
+// The report on a packet.
 impl From<Counted> for PacketReply {
     ghost from_gives = { λ c r. r ≡ flat_report (report_of c) };
 

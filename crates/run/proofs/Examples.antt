@@ -293,8 +293,8 @@ read = (
     slip_run : Run g A slip_calls
     slip_run = computed.1.run
 
--- ---- behind the card all that is lost is told in its place, so that the mark's time needs no book. A slave told by gaps has the same replies to all other
--- calls
+-- ---- behind the card all that is lost is told in its place, so that the mark has its time whatever the book says. A slave told by gaps has the same
+-- replies to all other calls
 
 abbrev told_by_gaps : List Call
 told_by_gaps = note 3 620 1 (pos 0) ∷ gap 1 ∷ gap 1 ∷ gap 1 ∷ gap 1 ∷ plain 625 5 ∷ note 621 626 6 (pos 0) ∷ []

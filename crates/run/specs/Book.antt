@@ -14,7 +14,7 @@ pub data Form : Type 0 where
   by_value : Form
   in_place : Form
 
--- what comes at a place
+-- what comes at a place; an empty packet comes in the place of one that was lost
 pub data Arrival : Type 0 where
   packet : (form : Form) (bytes : List ℕ) (tick : ℕ) → Arrival
   numbers : (bytes : List ℕ) (tick : ℕ) → Numbers → Arrival

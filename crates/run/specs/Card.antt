@@ -1,5 +1,5 @@
--- A listener behind a radio link card counts as having been told (document 02, Paper 5). An empty packet leaves what a gap of one leaves; and where all that
--- is lost is told in its place, by empty packets or by gaps, what demand 3 says needs no book.
+-- A listener behind a radio link card counts as having been told (document 02, Paper 5). An empty packet leaves what a gap of one leaves; and where all
+-- that is lost is told in its place, by empty packets or by gaps, nothing is untold in what demand 3 says.
 use Rattle.std.specs.Prelude.{ℕ, suc, ◌+◌, ◌≡◌, Bool, List, [], ◌∷◌, ℤ}
 use Rattle.std.proofs.Math.Option.{some}
 use Rattle.wire.specs.Reply.{number_of}
@@ -19,7 +19,7 @@ use Rattle.run.specs.Sentences.{Sentence, InEvery}
 
 -- ---- the same calls with their losses told by gaps
 
--- a gap of one for an empty packet, any other call as it is
+-- a gap of one for an empty packet, any other call as it is: `is_empty` holds of `[]` alone
 abbrev pub by_gap : Call → Call
 by_gap (at t (packet form [] tick)) = gap 1
 by_gap (at t (packet form (x ∷ p) tick)) = at t (packet form (x ∷ p) tick)
@@ -60,7 +60,7 @@ place_behind (Refuse k) t = t
 place_behind (Counts k) t = suc t
 place_behind (Takes x) t = suc t
 
--- place t is next; nothing is asked before the first notice taken
+-- place t is next; before the first notice taken nothing is asked, and that one says which place is next
 abbrev pub AllTold : Board → Book → ℕ → List Call → Type 0
 AllTold g b t [] = Unit {0}
 AllTold g closed t (at own a ∷ cs) = AllTold g (enter_call g closed (at own a)) (suc own) cs
@@ -73,7 +73,7 @@ pub record ToldRun (A : Adapter) (g : Board) (calls : List Call) : Type 0 where
   pub run : Run g A calls
   pub told : AllTold g closed 0 calls
 
--- from the first notice taken on, the label of every counted packet is the adapter's; demand 3 says so where a notice is taken
+-- from the first notice taken on, the label of every counted packet is the adapter's; where a notice is taken demand 3 says so
 abbrev pub LabelWhereTold : Sentence
 LabelWhereTold g b t v r = (k : ℕ) → v ≡ Counts k → (s : ℕ) (u : ℤ) (told : Bool) (od : ℤ) → b ≡ opened s u told od → label_in r ≡ some (label_at g.n t)
 

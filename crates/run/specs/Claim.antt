@@ -1,4 +1,4 @@
--- Demand 3: what is claimed of every run, and of any two on one stream, by the book.
+-- Demand 3: what is claimed of every run, and of any two on one stream, by the book; a loss may be told by a gap or by an empty packet.
 use Rattle.std.specs.Prelude.{ℕ, suc, ◌/◌, ◌≡◌, Bool, true, false, cond, ◌&&◌, List, ◌∷◌, ◌++◌, eqb, pos, ◌-ℤ◌}
 use Rattle.std.proofs.Math.Option.{Option, none, some}
 use Rattle.wire.specs.Reply.{Reply, refused, given}
@@ -91,16 +91,17 @@ pub record ReleasedTold (A : Adapter) (g : Board) (calls : List Call) (t profile
   pub release : ReleasedAt g calls t profile x
   pub exact : told_exactly (book_after g closed release.before) t ≡ true
 
--- of such marks, one that any two slaves of one profile and cadence both release has one reference time, in one unit
+-- marks of some kind: each that two slaves of one profile and cadence both release has one reference time, in one unit
 abbrev pub OneTimeOf : ((g : Board) (calls : List Call) (t profile : ℕ) → Times → Type 0) → Type 0
 OneTimeOf Marked =
     (g h : Board) (calls others : List Call) → g.profile ≡ h.profile → g.n ≡ h.n
     → (t p q : ℕ) (x y : Times) → Marked g calls t p x → Marked h others t q y → (p ≡ q) × (x.reference ≡ y.reference)
 
+-- any two slaves of one profile and cadence on the adapter's stream give one reference time to each mark that both release, all told exactly
 abbrev pub OneTime : Adapter → Type 0
 OneTime A = OneTimeOf (ReleasedTold A)
 
--- every run on the adapter's stream, and any two
+-- every run on the adapter's stream, empty packets in it as gaps of one, and any two
 pub record Demand3 (A : Adapter) : Type 0 where
   pub followed : (g : Board) (calls : List Call) → Run g A calls → Followed g A calls
   pub one_time : OneTime A

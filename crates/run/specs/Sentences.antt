@@ -25,7 +25,7 @@ InEvery Such P =
     (g : Board) (calls : List Call) → Such g calls → (before after : List Call) (t : ℕ) (a : Arrival) → calls ≡ before ++ at t a ∷ after
     → P g (book_after g closed before) t (verdict_at g (book_after g closed before) a) (hear (slave_after (begun g) before) a).reply
 
--- and so of every run on the adapter's stream
+-- at every place of every run on the adapter's stream
 abbrev pub InEveryRun : Adapter → Sentence → Type 0
 InEveryRun A P = InEvery (λ g calls. Run g A calls) P
 

@@ -1,4 +1,4 @@
--- What the calls of a slave answer: a number that refuses the whole call, or the report on a counted packet: label, notice, mark and M/H place.
+-- What the calls of a slave answer: a number that refuses the whole call, or the report on a packet: label, notice, mark and M/H place.
 use Rattle.std.specs.Prelude as std
 use Rattle.std.specs.Prelude.{◌≡◌, ℕ, Bool, None, Some, Ok, Err}
 use Rattle.std.proofs.Math.Option.{Option, none, some}
@@ -41,7 +41,7 @@ mark_lateness untimed = 0
 mark_lateness (due profile (late x)) = x
 mark_lateness (due profile (released t)) = 0
 
--- the report on a counted packet; `turn` says that a numbers notice gave another index than the known one
+-- the report on a packet that is not refused; `turn` says that a numbers notice gave another index than the known one
 pub record Report : Type 0 where
   pub label : Option ℕ
   pub notice : Notice

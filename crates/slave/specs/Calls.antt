@@ -1,4 +1,4 @@
--- The calls of a slave: 15 comes first, and leaves the cold slave. A sound one takes the step that its call is judged to.
+-- The calls of a slave: 15 comes first, and leaves the cold slave. A packet or a numbers notice takes a sound one by the step that it is judged to.
 use Rattle.std.specs.Prelude.{ℕ, Bool, cond, List}
 use Rattle.wire.specs.Reply.{refused, given, must}
 use Rattle.state.specs.Profile.{settings_kept}
@@ -24,7 +24,7 @@ step_of s (Refuse k) tick = left s (refused k)
 step_of s (Counts k) tick = counted s k tick
 step_of s (Takes t) tick = took s t tick
 
--- 15, then 1, 2, 3: what refuses a call with a packet before its notice is judged
+-- 15, then 1, 2, 3: what refuses a numbers notice, and a packet that is not empty, before any notice is judged
 unfoldable pub ready_refusal : Slave → List ℕ → ℕ → ℕ
 ready_refusal s p tick = must (sound s) 15 (arrival_refusal s.board.profile p tick)
 

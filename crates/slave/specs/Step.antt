@@ -56,11 +56,12 @@ count_at c = cond (eqb c.next 0) (past c 1) c
 abbrev pub kept_at : Slave → Waiting
 kept_at s = cond (eqb s.count.next 0) nothing s.waiting
 
--- the report on a counted packet of which no notice is taken; a hunting slave has no label, no mark and no place, and an empty packet has none
+-- the report on a counted packet of which no notice is taken
 abbrev pub counted_report : (label index : ℕ) → Notice → Mark → Report
 counted_report label index notice mark =
     record { label = some label; notice = notice; turn = false; mark = mark; place = place_of index label }
 
+-- the one with no label, no mark and no place: of a hunting slave, and of an empty packet
 abbrev pub unheard_report : Notice → Report
 unheard_report notice = record { label = none; notice = notice; turn = false; mark = unmarked; place = none }
 

@@ -1,5 +1,5 @@
--- What a packet changes of a slave, so that a call stores just that. No public call's contract cites it but that of `way_of`: what a way leaves and
--- replies is `packet_of`.
+-- What a packet changes of a slave, so that a call stores just that. No public call's contract cites it but those of `way_of`, where what a way leaves and
+-- replies is `packet_of`, and of `lost`, an empty packet's own.
 use Rattle.std.specs.Prelude as std
 use Rattle.std.specs.Prelude.{Ok, Err, cond, eqb}
 use Rattle.wire.specs.declared.Refusal.{Refusal}
@@ -39,7 +39,7 @@ left_by s r = cond (eqb (refusal_number r) 15) cold s
 abbrev pub refused_by : Slave → Refusal → Result Report
 refused_by s r = left (left_by s r) (refused (refusal_number r))
 
--- an empty packet's way does all that the call does: 15, then the gap
+-- an empty packet's way is all of its call: 15, then the gap
 abbrev pub lost_by : Slave → Result Report
 lost_by s = unless15 (sound s) (lost s)
 

@@ -35,7 +35,7 @@ pub enum MarkPart {
     A110(Due<Periods>),
 }
 
-// The report on a counted packet.
+// The report on a packet that is not refused: a counted one, or an empty one, which has nothing in it.
 #[derive(Clone, Copy)]
 pub struct Counted {
     pub label: Option<u16>,
@@ -45,7 +45,7 @@ pub struct Counted {
     pub place: Option<u16>,
 }
 
-// The reply to a packet or a numbers notice, in a caller's form: made of the report on a counted packet, or of what refuses the call.
+// The reply to a packet or a numbers notice, in a caller's form: made of the report on a packet, or of what refuses the call.
 pub trait Answer {
     ghost says: { Self → Reply Report → Type 0 };
 
@@ -98,8 +98,8 @@ pub struct Moved {
     pub report: Counted,
 }
 
-// What a packet that is not refused does to a slave. An empty one is a gap of one. Packets without a notice have three ways of their own: a hunting slave
-// stays as it is, the label moves on, or a mark is passed.
+// What a packet does to a slave. An empty one is a gap of one, which asks for 15 itself; any other is here where it is not refused. Packets without a notice
+// have three ways of their own: a hunting slave stays as it is, the label moves on, or a mark is passed.
 #[derive(Clone, Copy)]
 pub enum Way {
     Lost,
@@ -151,8 +151,8 @@ fn arrived(r: Ready<'_>, p: &[u8]) -> Way
     }
 }
 
-// What a packet with its arrival tick does. An empty one is a gap of one, which asks for 15 itself. Any other is judged in document 01's order, each thing
-// once: 15, then 1 to 3, then 4 and 6 to 13.
+// What a packet with its arrival tick does. An empty one was lost, whatever its tick. Any other is judged in document 01's order, each thing once: 15, then
+// 1 to 3, then 4 and 6 to 13.
 #[tactic(auto, using(crate::proofs::Calling::packet_lost), unfolding(crate::specs::Calls::packet_of))]
 pub fn way_of(s: &Slave, p: &[u8], tick: u32) -> Result<Way, Refusal>
     ensures { way_of s.now result ≡ packet_of s.now p.now tick }
@@ -189,7 +189,7 @@ fn refuse<A: Answer>(s: &mut Slave, r: Refusal) -> A
     }
 }
 
-// An empty packet stands for one that was lost: the slave is told a gap of one, and the reply has nothing in it (document 02, Paper 5).
+// An empty packet stands for one that was lost (document 02, Paper 5): a gap of one, which asks for 15, and a reply with nothing in it.
 #[tactic(auto, unfolding(crate::specs::Calls::gap_of))]
 pub fn lost<A: Answer>(s: &mut Slave) -> A
     ensures { Leaves A.says s.new result (lost_by s.old) }

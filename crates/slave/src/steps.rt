@@ -79,7 +79,7 @@ fn counted(label: u16, index: u8, notice: NoticePart, mark: MarkPart) -> Counted
     }
 }
 
-// The report of a hunting slave: it has no label, no mark and no place.
+// The report with no label, no mark and no place: of a hunting slave, and of an empty packet.
 pub(crate) fn unheard(notice: NoticePart) -> Counted
     ensures { report_of result ≡ unheard_report (notice_of notice) }
 {

@@ -78,8 +78,9 @@ fn tick_on(profile: u8, tick: Tick) -> u32
     }
 }
 
-// A packet with its arrival tick; of the lent slave, just what changes is stored. A tick of the other clock is none of the slave's (3). It matches the way
-// itself, and each arm returns: a plain packet takes 17 ns so, and 24 ns by `slave::packet`, whose answers the compiler joins.
+// A packet with its arrival tick; of the lent slave, just what changes is stored. A tick of the other clock is none of the slave's (3); of an empty packet
+// none is read. It matches the way itself, and each arm returns: a plain packet takes 17 ns so, and 24 ns by `slave::packet`, whose answers the compiler
+// joins.
 #[unsafe(no_mangle)]
 pub extern "C" fn vikombare_packet(s: &mut Slave, p: &[u8], tick: Tick) -> PacketReply
     ensures { flat_left s.new result ≡ flat_step (packet_of s.old p.now (tick_on s.old.board.profile tick)) }

@@ -50,6 +50,7 @@ fn required() -> Cases {
         (FOREIGN, "of length", lengths.clone()),
         (FOREIGN, "100 × phase + profile of the slave", vec![100, 101, 200, 201]),
         (FOREIGN, "of clock", vec![0, 1, 2, 255]),
+        (FOREIGN, "of clock, with an empty packet", vec![0, 1, 2, 255]),
         (FOREIGN, "tick", [DVB_SECOND, A110_SECOND].map(i64::from).into_iter().flat_map(|u| [0, u - 1, u]).collect()),
         (EMPTY, "number", vec![0, 15]),
         (EMPTY, "100 × phase + profile", vec![100, 101, 200, 201]),

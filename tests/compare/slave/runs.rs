@@ -60,6 +60,9 @@ impl Comparison<Calls> {
             self.saw(FOREIGN, "of clock", clock);
             self.saw(FOREIGN, "tick", tick);
         }
+        if packet.is_empty() && number == 0 {
+            self.saw(FOREIGN, "of clock, with an empty packet", clock);
+        }
         Ok(())
     }
 
