@@ -1,6 +1,6 @@
 -- Behind a radio link card: an empty packet is a gap of one, and where all that is lost is told in its place, the book has nothing untold.
 use mathlib.Core.Path.{◌≡◌, refl, sym, ap, ◌∙◌, subst}
-use mathlib.Core.Bool.{Bool, true, false, cond}
+use mathlib.Core.Bool.{Bool, true, false, cond, false≢true}
 use mathlib.Core.List.{List, [], ◌∷◌, ◌++◌}
 use mathlib.Core.Option.{some}
 use Prim.Native.Nat.{ℕ, zero, suc, ◌+◌, ◌%◌, ◌<◌}
@@ -17,7 +17,8 @@ use Rattle.state.specs.declared.Board.{Board}
 use Rattle.state.specs.declared.Slave.{Slave}
 use Rattle.state.proofs.Sound.{some_packets}
 use Rattle.judging.specs.Judgement.{Judgement, Lost, Refuse, Counts, Takes}
-use Rattle.slave.specs.Answer.{absent, taken, slip, ignored, Report, notice_in, mark_in, Result}
+use Rattle.slave.specs.Answer.{Notice, absent, taken, slip, ignored, Report, notice_in, mark_in, Result}
+use Rattle.slave.specs.Step.{notice_by}
 use Rattle.slave.specs.Calls.{step_of, packet_of, gap_of}
 use Rattle.slave.proofs.Due.{unmarked_apart}
 use Rattle.run.specs.Adapter.{Adapter}
@@ -35,24 +36,19 @@ tick_unread : (s : Slave) (tick other : ℕ) → packet_of s [] tick ≡ packet_
 unfolding packet_of step_of
 tick_unread s tick other = refl
 
--- two answers of one number, or that leave one slave, behind one choice
-choice_slave : {X Y : Type 0} (b : Bool) (x y : Result X) (x' y' : Result Y) → x.slave ≡ x'.slave → y.slave ≡ y'.slave → (cond b x y).slave ≡ (cond b x' y').slave
-choice_slave true x y x' y' e f = e
-choice_slave false x y x' y' e f = f
-
-choice_number : {X Y : Type 0} (b : Bool) (x y : Result X) (x' y' : Result Y) → number_of x.reply ≡ number_of x'.reply
-    → number_of y.reply ≡ number_of y'.reply → number_of (cond b x y).reply ≡ number_of (cond b x' y').reply
-choice_number true x y x' y' e f = e
-choice_number false x y x' y' e f = f
+-- what two answers have in common on either side of a choice, they have in common behind it
+choice : {X Y Z : Type 0} (f : X → Z) (g : Y → Z) (b : Bool) (x y : X) (x' y' : Y) → f x ≡ g x' → f y ≡ g y' → f (cond b x y) ≡ g (cond b x' y')
+choice f g true x y x' y' e d = e
+choice f g false x y x' y' e d = d
 
 module _ (s : Slave) (tick : ℕ) where
   one_slave : (packet_of s [] tick).slave ≡ (gap_of s 1).slave
   unfolding packet_of step_of gap_of
-  one_slave = choice_slave (sound s) _ _ _ _ refl refl
+  one_slave = choice (λ (r : Result Report). r.slave) (λ (r : Result (Unit {0})). r.slave) (sound s) _ _ _ _ refl refl
 
   one_number : number_of (packet_of s [] tick).reply ≡ number_of (gap_of s 1).reply
   unfolding packet_of step_of gap_of
-  one_number = choice_number (sound s) _ _ _ _ refl refl
+  one_number = choice (λ (r : Result Report). number_of r.reply) (λ (r : Result (Unit {0})). number_of r.reply) (sound s) _ _ _ _ refl refl
 
 -- what holds of an empty packet with a gap of one, and of any call with itself, holds of each call with what takes its place
 by_kind : (P : Call → Call → Type 0) → ((t : ℕ) (form : Form) (tick : ℕ) → P (at t (packet form [] tick)) (gap 1)) → ((c : Call) → P c c)
@@ -196,6 +192,16 @@ stands g (opened s u told od) place e (at p x ∷ before) after own a w =
     stands g (enter (opened s u told od) p v) (place_behind v place) (even_on (opened s u told od) place p v e w.0) before after own a w.1
 stands g b place e (gap k ∷ before) after own a w = stands g (tell_gap b k) (place + k) (even_gap b place k e) before after own a w
 
+abbrev slips : Notice → Bool
+slips absent = false
+slips taken = false
+slips slip = true
+slips (ignored k) = false
+
+none_taken : (k : ℕ) → slips (notice_by k) ≡ false
+none_taken zero = refl
+none_taken (suc k) = refl
+
 module _ (A : Adapter) (g : Board) (calls : List Call) (r : ToldRun A g calls) (before after : List Call) (t : ℕ) (a : Arrival)
     (e : calls ≡ before ++ at t a ∷ after) where
   abbrev b : Book
@@ -236,18 +242,17 @@ module _ (A : Adapter) (g : Board) (calls : List Call) (r : ToldRun A g calls) (
   no_slip : NoSlip g b t v answer
   no_slip m = by_verdict v refl
     where
-      apart : slip ≡ absent → ⊥
-      apart d = let z : ◌≡◌ {A = ℕ} 0 1 = cc in omega arith
+      other : (n : Notice) → slips n ≡ false → notice_in answer ≡ n → ⊥
+      other n z h = false≢true (sym z ∙ ap slips (sym h ∙ m))
 
       by_verdict : (w : Judgement) → v ≡ w → ⊥
-      by_verdict Lost q = apart (sym m ∙ ap notice_in (right Lost q))
-      by_verdict (Refuse k) q = apart (sym m ∙ ap notice_in (right (Refuse k) q))
-      by_verdict (Counts zero) q = apart (sym m ∙ has_notice g A b t answer (right (Counts zero) q))
-      by_verdict (Counts (suc k)) q = let d : slip ≡ ignored (suc k) = sym m ∙ has_notice g A b t answer (right (Counts (suc k)) q) in let z : ◌≡◌ {A = ℕ} 0 1 = cc in omega arith
+      by_verdict Lost q = other absent refl (ap notice_in (right Lost q))
+      by_verdict (Refuse k) q = other absent refl (ap notice_in (right (Refuse k) q))
+      by_verdict (Counts k) q = other (notice_by k) (none_taken k) (has_notice g A b t answer (right (Counts k) q))
       by_verdict (Takes x) q = by_book b refl
         where
           by_book : (c : Book) → b ≡ c → ⊥
-          by_book closed o = let d : slip ≡ taken = sym m ∙ has_notice g A b t answer (right (Takes x) q) ∙ ap (λ (c : Book). slip_by g.n c t) o in let z : ◌≡◌ {A = ℕ} 0 1 = cc in omega arith
+          by_book closed o = other taken refl (has_notice g A b t answer (right (Takes x) q) ∙ ap (λ (c : Book). slip_by g.n c t) o)
           by_book (opened s u told od) o =
               let d = none_here s u told od o (stands_here s u told od o (Takes x) q) in
               ((sentences A).slips g calls r.run before after t a e x q s u told od o).0 m
