@@ -299,9 +299,9 @@ VIKOMBARE_KEEP uint8_t vikombare_a110_start(vikombare_slave *slave, uint16_t n, 
  * tell a lost packet by one of the two calls, not by both. */
 VIKOMBARE_KEEP vikombare_reply vikombare_packet(vikombare_slave *slave, const uint8_t *packet, size_t length, vikombare_tick arrival);
 
-/* Takes a packet that comes with a notice in numbers, profile 1, in place of vikombare_packet for this packet. Order: 15 (leaves the cold slave), 1, 2, 3,
- * 20 (each leaves the slave as it was); then 4, 11, 12, 13 ignore the notice, and the packet counts. A slave of profile 0 takes no numbers notice: it
- * answers 3 where the arrival's count is VIKOMBARE_DVB_SECOND or more, else 20. */
+/* Takes a packet that comes with a notice in numbers, profile 1, in place of vikombare_packet for this packet. Order: 15 (leaves the cold slave), 1 (for a
+ * length of 0 too), 2, 3, 20 (each leaves the slave as it was); then 4, 11, 12, 13 ignore the notice, and the packet counts. A slave of profile 0 takes no
+ * numbers notice: it answers 3 where the arrival's count is VIKOMBARE_DVB_SECOND or more, else 20. */
 VIKOMBARE_KEEP vikombare_reply vikombare_numbers(vikombare_slave *slave, const uint8_t *packet, size_t length, vikombare_periods arrival,
                                                  vikombare_numbers_notice notice);
 
