@@ -90,11 +90,11 @@ module _ (b : Board) (x : Taken) where
   field_limits p (given t) e = limited_limits (mip_taken p t) e
 
   module _ (t : Settings) (p : List ℕ) where
-    pub arrived_limits : judge_arrived b t p ≡ Takes x → Limits b x
+    pub arrived_limits : (limit : ℕ) → judge_arrived b t p limit ≡ Takes x → Limits b x
     unfolding judge_arrived judge_mip
-    arrived_limits e =
-        let i = chosen (carries b.profile p) (judge_mip b t p) 0 x (chosen (eqb (error_indicator p) 0) _ 4 x e) in
-        field_limits p (settings_of (addressing_field p) b.site t) (unignored (section_refusal p) _ x i).1
+    arrived_limits limit e =
+        let i = chosen (carries b.profile p) (judge_mip b t p limit) 0 x (chosen (eqb (error_indicator p) 0) _ 4 x e) in
+        field_limits p (settings_of (addressing_field p) b.site t) (unignored (section_refusal p limit) _ x i).1
 
     pub given_limits : (y : Numbers) → judge_given b t p y ≡ Takes x → Limits b x
     unfolding judge_given

@@ -64,15 +64,15 @@ field_alike b p (given t) (refused m) e = absurd e
 field_alike b p (given t) (given u) e = limited_alike b (mip_taken p t) t u e
 
 module _ (b : Board) (t u : Settings) (e : OneOd t u) (p : List ℕ) (tick : ℕ) where
-  pub packet_alike : Alike (judge_packet b t p tick) (judge_packet b u p tick)
+  pub packet_alike : (limit : ℕ) → Alike (judge_packet b t p tick limit) (judge_packet b u p tick limit)
   unfolding judge_arrived judge_mip
-  packet_alike =
+  packet_alike limit =
       pair Alike (is_empty p)
       lost_alike
       (unless_alike (arrival_refusal b.profile p tick)
       (pair Alike (eqb (error_indicator p) 0)
       (pair Alike (carries b.profile p)
-      (ignored_alike (section_refusal p)
+      (ignored_alike (section_refusal p limit)
       (field_alike b p (settings_of (addressing_field p) b.site t) (settings_of (addressing_field p) b.site u)
       (settings_both OneOd od_kept (addressing_field p) b.site t u e)))
       counted_alike)
@@ -143,15 +143,15 @@ module _ (b : Board) where
   field_fit p (given t) h = limited_fit (mip_taken p t) h (λ l. refl)
 
   module _ (t : Settings) (f : frequency_fits t.frequency ≡ true) (p : List ℕ) (tick : ℕ) where
-    pub packet_fit : IfTaken (Fit b) (judge_packet b t p tick)
+    pub packet_fit : (limit : ℕ) → IfTaken (Fit b) (judge_packet b t p tick limit)
     unfolding judge_arrived judge_mip
-    packet_fit =
+    packet_fit limit =
         pick (IfTaken (Fit b)) (is_empty p) _ _
         tt
         (if_unrefused (Fit b) (arrival_refusal b.profile p tick) _
         (pick (IfTaken (Fit b)) (eqb (error_indicator p) 0) _ _
         (pick (IfTaken (Fit b)) (carries b.profile p) _ _
-        (if_unignored (Fit b) (section_refusal p) _
+        (if_unignored (Fit b) (section_refusal p limit) _
         (λ e. field_fit p (settings_of (addressing_field p) b.site t) (settings_both InBits bits_kept (addressing_field p) b.site t t f)))
         tt)
         tt))

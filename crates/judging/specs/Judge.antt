@@ -65,17 +65,18 @@ abbrev pub judge_field : Board → List ℕ → Reply Settings → Judgement
 judge_field b p (refused k) = Counts k
 judge_field b p (given t) = limited b (mip_taken p t)
 
--- a MIP: 6 to 9, then 10, then 11 to 13
-unfoldable pub judge_mip : Board → Settings → List ℕ → Judgement
-judge_mip b t p = unless_ignored (section_refusal p) (judge_field b p (settings_of (addressing_field p) b.site t))
+-- a MIP: 6 to 8, 26 by the reader's limit, 9, then 10, then 11 to 13
+unfoldable pub judge_mip : Board → Settings → List ℕ → ℕ → Judgement
+judge_mip b t p limit = unless_ignored (section_refusal p limit) (judge_field b p (settings_of (addressing_field p) b.site t))
 
 -- a packet that arrived right: 4 comes before the PID
-unfoldable pub judge_arrived : Board → Settings → List ℕ → Judgement
-judge_arrived b t p = cond (eqb (error_indicator p) 0) (cond (carries b.profile p) (judge_mip b t p) (Counts 0)) (Counts 4)
+unfoldable pub judge_arrived : Board → Settings → List ℕ → ℕ → Judgement
+judge_arrived b t p limit = cond (eqb (error_indicator p) 0) (cond (carries b.profile p) (judge_mip b t p limit) (Counts 0)) (Counts 4)
 
--- a packet: an empty one stands for one that was lost, whatever its tick (document 02, Paper 5). Any other: 1, 2, 3, then 4 and 6 to 13
-abbrev pub judge_packet : Board → Settings → List ℕ → ℕ → Judgement
-judge_packet b t p tick = cond (is_empty p) Lost (unless_refused (arrival_refusal b.profile p tick) (judge_arrived b t p))
+-- a packet, whose notice is read with this limit: an empty one stands for one that was lost, whatever its tick (document 02, Paper 5). Any other: 1, 2, 3,
+-- then 4, 6 to 8, 26 and 9 to 13
+abbrev pub judge_packet : Board → Settings → List ℕ → (tick limit : ℕ) → Judgement
+judge_packet b t p tick limit = cond (is_empty p) Lost (unless_refused (arrival_refusal b.profile p tick) (judge_arrived b t p limit))
 
 -- what a numbers notice gives; frequency and power stay
 abbrev pub numbers_taken : Settings → Numbers → Taken

@@ -105,26 +105,27 @@ fn mip_taken(p: &[u8], settings: Settings) -> Taken
     }
 }
 
-// A MIP: 6 to 9, then one walk of its addressing field for its form and what it sets, then 11 to 13.
+// A MIP: 6 to 8, 26 and 9, then one walk of its addressing field for its form and what it sets, then 11 to 13.
 #[tactic(auto, unfolding(crate::specs::Judge::judge_mip))]
-fn judge_mip(b: Board, t: Settings, p: &[u8]) -> Result<Taken, Refusal>
-    ensures { taken_of result ≡ judge_mip b t p.now }
+fn judge_mip(b: Board, t: Settings, p: &[u8], limit: usize) -> Result<Taken, Refusal>
+    ensures { taken_of result ≡ judge_mip b t p.now limit }
 {
-    notice::check_section(p)?;
+    notice::check_section(p, limit)?;
     let settings = addressing::settings_of(notice::addressing_part(p), b.site, t)?;
     limited(b, mip_taken(p, settings))
 }
 
-// A packet that arrived right: none where it carries no notice, and an error where a number of C ignores its notice. 4 comes before the PID.
+// A packet that arrived right: none where it carries no notice, and an error where a number of C ignores its notice, which is read with this limit. 4 comes
+// before the PID.
 #[tactic(auto, unfolding(crate::specs::Judge::judge_arrived))]
-pub fn judge_arrived(b: Board, t: Settings, p: &[u8]) -> Result<Option<Taken>, Refusal>
-    ensures { judgement_of result ≡ judge_arrived b t p.now }
+pub fn judge_arrived(b: Board, t: Settings, p: &[u8], limit: usize) -> Result<Option<Taken>, Refusal>
+    ensures { judgement_of result ≡ judge_arrived b t p.now limit }
 {
     if notice::error_indicator(p) != 0 {
         return Err(Refusal::ErrorIndicator);
     }
     if carries(b.profile, p) {
-        return Ok(Some(judge_mip(b, t, p)?));
+        return Ok(Some(judge_mip(b, t, p, limit)?));
     }
     Ok(None)
 }

@@ -15,6 +15,7 @@ use Rattle.state.specs.Profile.{settings_kept}
 use Rattle.state.specs.Slave.{cold}
 use Rattle.state.specs.declared.Slave.{Slave}
 use Rattle.slave.specs.Answer.{left}
+use Rattle.wire.specs.Standards.{longest_addressing}
 use Rattle.slave.specs.Calls.{start_of, packet_of}
 use Rattle.text.specs.Rooms.{line_room}
 use Rattle.text.specs.Line.{line_of, end_line}
@@ -40,7 +41,7 @@ pub record_cut : (s : Slave) (r : List ℕ) → (length r ≡ record_length → 
 unfolding record_of
 record_cut s r h = rw (ne_eqb (length r) record_length h)
 
-pub record_whole : (s : Slave) (r : List ℕ) → length r ≡ record_length → record_of s r ≡ packet_of s (drop tick_length r) (be32_at r 0)
+pub record_whole : (s : Slave) (r : List ℕ) → length r ≡ record_length → record_of s r ≡ packet_of s (drop tick_length r) (be32_at r 0) longest_addressing
 unfolding record_of
 record_whole s r h = rw (eq-eqb (length r) record_length h)
 

@@ -8,6 +8,7 @@ use lib.ListN.{length, take, drop, length-append, length-drop, take-append-drop}
 use lib.Seq.{length-take-le, take_all, take_at, drop_at}
 use Rattle.wire.specs.BigEndian.{be32_at}
 use Rattle.slave.specs.Answer.{Report, Result}
+use Rattle.wire.specs.Standards.{longest_addressing}
 use Rattle.slave.specs.Calls.{packet_of}
 use Rattle.state.specs.declared.Slave.{Slave}
 use Rattle.text.specs.Rooms.{line_room}
@@ -51,7 +52,7 @@ module _ (s : Slave) (number : ℕ) (i : List ℕ) (k : ℕ) (out : List ℕ) wh
   module _ {t : Slave} {next : ℕ} {rest out' : List ℕ} {end : ℕ} (g : Going s number i k out t next rest out' end) where
     -- the next record is answered, and its line put behind the others
     pub going_on : (r : List ℕ) {rest' out'' : List ℕ} {tick end' : ℕ} {q : Result Report} → rest ≡ r ++ rest' → length r ≡ record_length → tick ≡ be32_at r 0
-        → q ≡ packet_of t (take (length r - tick_length) (drop tick_length r)) tick
+        → q ≡ packet_of t (take (length r - tick_length) (drop tick_length r)) tick longest_addressing
         → Puts line_room out' end (line_of next q.reply) out'' end'
         → Going s number i k out q.slave (next + 1) rest' out'' end'
     unfolding slave_behind lines_of
@@ -62,7 +63,7 @@ module _ (s : Slave) (number : ℕ) (i : List ℕ) (k : ℕ) (out : List ℕ) wh
         let part : take (length r - tick_length) (drop tick_length r) ≡ drop tick_length r = take_all (length r - tick_length) (drop tick_length r) (omega (arith, length-drop tick_length r)) in
         let first : first_of rest ≡ r = ap first_of split ∙ take_at r rest' record_length whole in
         let behind : drop record_length rest ≡ rest' = ap (drop record_length) split ∙ drop_at r rest' record_length whole in
-        let same : q ≡ record_of t (first_of rest) = packet ∙ (λ j. packet_of t (part j) (ticks j)) ∙ sym (record_whole t r whole) ∙ ap (record_of t) (sym first) in
+        let same : q ≡ record_of t (first_of rest) = packet ∙ (λ j. packet_of t (part j) (ticks j) longest_addressing) ∙ sym (record_whole t r whole) ∙ ap (record_of t) (sym first) in
         record {
           left = m;
           whole = omega (arith, g.whole);

@@ -1,7 +1,7 @@
 -- The log of a capture: the settings, the records one after another, and what is left at the end.
 use Rattle.std.specs.Prelude.{ℕ, zero, suc, ◌+◌, ◌-◌, ◌/◌, cond, List, [], ◌++◌, eqb, leb, length, take, drop, get_or}
 use Rattle.wire.specs.Reply.{Reply, refused, given}
-use Rattle.wire.specs.Standards.{packet_length}
+use Rattle.wire.specs.Standards.{packet_length, longest_addressing}
 use Rattle.wire.specs.BigEndian.{be16_at, be32_at}
 use Rattle.state.specs.declared.Board.{Board}
 use Rattle.state.specs.declared.Slave.{Slave}
@@ -35,9 +35,9 @@ tick_length = 4
 abbrev pub record_length : ℕ
 record_length = tick_length + packet_length
 
--- what a record does to the slave; one that is cut short is refused with 1
+-- what a record does to the slave, a full board's; one that is cut short is refused with 1
 unfoldable pub record_of : Slave → List ℕ → Result Report
-record_of s r = cond (eqb (length r) record_length) (packet_of s (drop tick_length r) (be32_at r 0)) (left s (refused 1))
+record_of s r = cond (eqb (length r) record_length) (packet_of s (drop tick_length r) (be32_at r 0) longest_addressing) (left s (refused 1))
 
 -- the first record's bytes
 abbrev pub first_of : List ℕ → List ℕ

@@ -13,7 +13,7 @@ ghost use Rattle.lines.specs.Pieces.{most_records, handled_in, Handled, TakesPie
 use slave::Left;
 use state::{Board, Slave};
 use text::Page;
-use wire::Refusal;
+use wire::{LONGEST_ADDRESSING, Refusal};
 
 // The bytes of a capture's settings, and of a record with its tick: specs/Log.antt.
 pub const SETTINGS_LENGTH: usize = 9;
@@ -122,7 +122,8 @@ impl Log {
         let mut page = Page { out, at: 0 };
         for record in input[..used].chunks_exact(RECORD_LENGTH) {
             let tick = wire::number32_at(record, 0);
-            let answer = slave::packet(&mut self.slave, &record[TICK_LENGTH..], tick);
+            let p = &record[TICK_LENGTH..];
+            let answer = slave::packet(&mut self.slave, p, tick, LONGEST_ADDRESSING);
             page.line(self.number, answer);
             self.number += 1;
         }

@@ -1,2 +1,3 @@
 -- The laws of crate `notice`, in the order in which they build on each other.
 pub mod Sound
+pub mod Limit

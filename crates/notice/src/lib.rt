@@ -4,7 +4,7 @@
 ghost use Rattle.std.specs.Prelude.{◌≡◌};
 ghost use Rattle.check_value.specs.Register.{register};
 ghost use Rattle.notice.specs.Mip.{sync, error_indicator, unit_start_and_priority, packet_identifier, scrambling_and_adaptation, continuity_counter, synchronization_id, section_length, pointer, periodic_flag, future_use, synchronization_time_stamp, maximum_delay, tps_mip, individual_addressing_length, addressing_field, through_check, notice_in};
-ghost use Rattle.notice.specs.Reader.{packet_refusal, section_refusal, body_refusal, read_of};
+ghost use Rattle.notice.specs.Reader.{limit_of, packet_refusal, section_refusal, body_refusal, read_of};
 ghost use Rattle.wire.specs.Reply.{reply, reply_of};
 
 use times::Steps;
@@ -153,10 +153,17 @@ fn check_packet(p: &[u8]) -> Result<(), Refusal>
     Ok(())
 }
 
-// 6 to 9: the fixed header bits, the scheme, the lengths and the check value.
+// A reader's own limit on the addressing field: above 163 it is 163.
+fn limit_of(limit: usize) -> usize
+    ensures { result ≡ limit_of limit }
+{
+    limit.min(wire::LONGEST_ADDRESSING)
+}
+
+// 6, 7, 8, 26 and 9: the fixed header bits, the scheme, the lengths, the reader's limit and the check value.
 #[tactic(auto, unfolding(crate::specs::Reader::section_refusal))]
-pub fn check_section(p: &[u8]) -> Result<(), Refusal>
-    ensures { reply_of result ≡ reply (section_refusal p.now) tt }
+pub fn check_section(p: &[u8], limit: usize) -> Result<(), Refusal>
+    ensures { reply_of result ≡ reply (section_refusal p.now limit) tt }
 {
     if unit_start_and_priority(p) != 3 || scrambling_and_adaptation(p) != 1 {
         return Err(Refusal::HeaderBits);
@@ -167,6 +174,9 @@ pub fn check_section(p: &[u8]) -> Result<(), Refusal>
     let a = usize::from(individual_addressing_length(p));
     if a > wire::LONGEST_ADDRESSING || usize::from(section_length(p)) != wire::SECTION_BESIDE + a {
         return Err(Refusal::SectionLength);
+    }
+    if a > limit_of(limit) {
+        return Err(Refusal::ReaderLimit);
     }
     if check_left(p) != 0 {
         return Err(Refusal::CheckValue);
@@ -203,13 +213,13 @@ fn notice_in(p: &[u8]) -> Notice
     }
 }
 
-// Reads a notice from any bytes.
+// Reads a notice from any bytes, with an addressing field of at most the limit.
 #[tactic(auto, unfolding(crate::specs::Reader::read_of, crate::specs::Reader::read_refusal))]
-pub fn read_notice(p: &[u8]) -> Result<Notice, Refusal>
-    ensures { reply_of result ≡ read_of p.now }
+pub fn read_notice(p: &[u8], limit: usize) -> Result<Notice, Refusal>
+    ensures { reply_of result ≡ read_of p.now limit }
 {
     check_packet(p)?;
-    check_section(p)?;
+    check_section(p, limit)?;
     check_body(p)?;
     Ok(notice_in(p))
 }

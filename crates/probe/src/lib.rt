@@ -145,12 +145,12 @@ pub extern "C" fn probe_mobile_place(i: u8, p: u16) -> u16
     cadence::mobile_place(i, p)
 }
 
-// A packet by value, with the reply as plain numbers.
+// A packet by value, its notice read with this limit, with the reply as plain numbers.
 #[unsafe(no_mangle)]
-pub extern "C" fn probe_packet(mut s: Slave, p: &[u8], tick: u32) -> Step
-    ensures { result ≡ flat_step (packet_of s p.now tick) }
+pub extern "C" fn probe_packet(mut s: Slave, p: &[u8], tick: u32, limit: usize) -> Step
+    ensures { result ≡ flat_step (packet_of s p.now tick limit) }
 {
-    let reply = slave::packet(&mut s, p, tick);
+    let reply = slave::packet(&mut s, p, tick, limit);
     Step { slave: s, reply }
 }
 

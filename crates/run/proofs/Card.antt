@@ -1,7 +1,7 @@
 -- Behind a radio link card: an empty packet is a gap of one, and where all that is lost is told in its place, the book has nothing untold.
 use mathlib.Core.Path.{◌≡◌, refl, sym, ap, ◌∙◌, subst}
 use mathlib.Core.Bool.{Bool, true, false, cond, false≢true}
-use mathlib.Core.List.{List, [], ◌∷◌, ◌++◌}
+use mathlib.Core.List.{List, [], ◌∷◌, ◌++◌, map}
 use mathlib.Core.Option.{some}
 use Prim.Native.Nat.{ℕ, zero, suc, ◌+◌, ◌%◌, ◌<◌}
 use native.Mathlib.Omega.{arith}
@@ -32,48 +32,52 @@ use Rattle.run.proofs.Sentences.{has_notice, sentences}
 
 -- ---- an empty packet and a gap of one
 
-tick_unread : (s : Slave) (tick other : ℕ) → packet_of s [] tick ≡ packet_of s [] other
+unread : (s : Slave) (tick other limit m : ℕ) → packet_of s [] tick limit ≡ packet_of s [] other m
 unfolding packet_of step_of
-tick_unread s tick other = refl
+unread s tick other limit m = refl
 
 -- what two answers have in common on either side of a choice, they have in common behind it
 choice : {X Y Z : Type 0} (f : X → Z) (g : Y → Z) (b : Bool) (x y : X) (x' y' : Y) → f x ≡ g x' → f y ≡ g y' → f (cond b x y) ≡ g (cond b x' y')
 choice f g true x y x' y' e d = e
 choice f g false x y x' y' e d = d
 
-module _ (s : Slave) (tick : ℕ) where
-  one_slave : (packet_of s [] tick).slave ≡ (gap_of s 1).slave
+module _ (s : Slave) (tick limit : ℕ) where
+  one_slave : (packet_of s [] tick limit).slave ≡ (gap_of s 1).slave
   unfolding packet_of step_of gap_of
   one_slave = choice (λ (r : Result Report). r.slave) (λ (r : Result (Unit {0})). r.slave) (sound s) _ _ _ _ refl refl
 
-  one_number : number_of (packet_of s [] tick).reply ≡ number_of (gap_of s 1).reply
+  one_number : number_of (packet_of s [] tick limit).reply ≡ number_of (gap_of s 1).reply
   unfolding packet_of step_of gap_of
   one_number = choice (λ (r : Result Report). number_of r.reply) (λ (r : Result (Unit {0})). number_of r.reply) (sound s) _ _ _ _ refl refl
 
 -- what holds of an empty packet with a gap of one, and of any call with itself, holds of each call with what takes its place
-by_kind : (P : Call → Call → Type 0) → ((t : ℕ) (form : Form) (tick : ℕ) → P (at t (packet form [] tick)) (gap 1)) → ((c : Call) → P c c)
+by_kind : (P : Call → Call → Type 0) → ((t : ℕ) (form : Form) (tick limit : ℕ) → P (at t (packet form [] tick limit)) (gap 1)) → ((c : Call) → P c c)
     → (c : Call) → P c (by_gap c)
-by_kind P e r (at t (packet form [] tick)) = e t form tick
-by_kind P e r (at t (packet form (x ∷ p) tick)) = r (at t (packet form (x ∷ p) tick))
+by_kind P e r (at t (packet form [] tick limit)) = e t form tick limit
+by_kind P e r (at t (packet form (x ∷ p) tick limit)) = r (at t (packet form (x ∷ p) tick limit))
 by_kind P e r (at t (numbers p tick x)) = r (at t (numbers p tick x))
 by_kind P e r (gap k) = r (gap k)
 
 left_alike : (s : Slave) (c : Call) → leave s (by_gap c) ≡ leave s c
 unfolding leave hear
-left_alike s = by_kind (λ c d. leave s d ≡ leave s c) (λ t form tick. sym (one_slave s tick)) (λ c. refl)
+left_alike s = by_kind (λ c d. leave s d ≡ leave s c) (λ t form tick limit. sym (one_slave s tick limit)) (λ c. refl)
+
+-- where each call leaves what the one in its place leaves, so does a list of them
+pub all_alike : (f : Call → Call) → ((s : Slave) (c : Call) → leave s (f c) ≡ leave s c) → (s : Slave) (cs : List Call) → slave_after s (map f cs) ≡ slave_after s cs
+unfolding slave_after
+all_alike f e s [] = refl
+all_alike f e s (c ∷ cs) = ap (λ (x : Slave). slave_after x (map f cs)) (e s c) ∙ all_alike f e (leave s c) cs
 
 slaves : (s : Slave) (cs : List Call) → slave_after s (by_gaps cs) ≡ slave_after s cs
-unfolding slave_after by_gaps
-slaves s [] = refl
-slaves s (c ∷ cs) = ap (λ (x : Slave). slave_after x (by_gaps cs)) (left_alike s c) ∙ slaves (leave s c) cs
+slaves = all_alike by_gap left_alike
 
 module _ (g : Board) where
   entered_alike : (b : Book) (c : Call) → enter_call g b (by_gap c) ≡ enter_call g b c
   unfolding enter_call verdict_at judged enter
-  entered_alike b = by_kind (λ c d. enter_call g b d ≡ enter_call g b c) (λ t form tick. refl) (λ c. refl)
+  entered_alike b = by_kind (λ c d. enter_call g b d ≡ enter_call g b c) (λ t form tick limit. refl) (λ c. refl)
 
   books : (b : Book) (cs : List Call) → book_after g b (by_gaps cs) ≡ book_after g b cs
-  unfolding book_after by_gaps
+  unfolding book_after
   books b [] = refl
   books b (c ∷ cs) = ap (λ (x : Book). book_after g x (by_gaps cs)) (entered_alike b c) ∙ books (enter_call g b c) cs
 
@@ -84,7 +88,7 @@ module _ (g : Board) where
   places_alike b =
       by_kind
       (λ c d. (cs ds : List Call) → places g (enter_call g b c) ds ≡ places g (enter_call g b c) cs → places g b (d ∷ ds) ≡ places g b (c ∷ cs))
-      (λ t form tick cs ds e. e)
+      (λ t form tick limit cs ds e. e)
       own
     where
       own : (c : Call) (cs ds : List Call) → places g (enter_call g b c) ds ≡ places g (enter_call g b c) cs → places g b (c ∷ ds) ≡ places g b (c ∷ cs)
@@ -92,7 +96,6 @@ module _ (g : Board) where
       own (gap k) cs ds e = e
 
   all_places : (b : Book) (cs : List Call) → places g b (by_gaps cs) ≡ places g b cs
-  unfolding by_gaps
   all_places b [] = refl
   all_places b (c ∷ cs) = places_alike b c cs (by_gaps cs) (all_places (enter_call g b c) cs)
 
@@ -102,16 +105,14 @@ module _ (g : Board) where
 
     genuine_alike : (b : Book) (c : Call) → Same b c (by_gap c)
     unfolding verdict_at judged
-    genuine_alike b = by_kind (Same b) (λ t form tick. (λ w. tt, λ w. tt)) (λ c. (λ w. w, λ w. w))
+    genuine_alike b = by_kind (Same b) (λ t form tick limit. (λ w. tt, λ w. tt)) (λ c. (λ w. w, λ w. w))
 
     all_genuine : (b : Book) (cs : List Call) → AllGenuine g A b cs → AllGenuine g A b (by_gaps cs)
-    unfolding by_gaps
     all_genuine b [] w = tt
     all_genuine b (c ∷ cs) w =
         ((genuine_alike b c).0 w.0, rw entered_alike (all_genuine (enter_call g b c) cs w.1))
 
     genuine_back : (b : Book) (cs : List Call) → AllGenuine g A b (by_gaps cs) → AllGenuine g A b cs
-    unfolding by_gaps
     genuine_back b [] w = tt
     genuine_back b (c ∷ cs) w =
         ((genuine_alike b c).1 w.0, genuine_back (enter_call g b c) cs (rw entered_alike at w.1))
@@ -119,7 +120,7 @@ module _ (g : Board) where
 pub one_by_gaps : OneByGaps
 one_by_gaps =
     record {
-      tick_unread = tick_unread;
+      unread = unread;
       one_slave = one_slave;
       one_number = one_number;
       slaves = slaves;

@@ -9,6 +9,7 @@ use lib.Dec.{eqb, lit≤}
 use lib.IntN.{ℤ, pos, negsuc}
 use lib.ListN.{replicate, take}
 use Rattle.wire.specs.Reply.{Reply, refused, given}
+use Rattle.wire.specs.Standards.{longest_addressing}
 use Rattle.check_value.specs.Register.{bit_in, bits_in, register_from, register}
 use Rattle.times.specs.Whole.{within}
 use Rattle.times.specs.Release.{wrap, modulation, link_delay, delay_fits, delay_fits_a110, late, released, due_of}
@@ -54,7 +55,7 @@ damaged = 0x46 ∷ replicate 187 0
 
 -- a plain packet, and a numbers notice with the adapter's STS and MD: what comes, and the call
 abbrev quiet : ℕ → Arrival
-quiet tick = packet in_place clean tick
+quiet tick = packet in_place clean tick longest_addressing
 
 abbrev plain : ℕ → ℕ → Call
 plain t tick = at t (quiet tick)
@@ -94,7 +95,7 @@ pub record Computed (A : Adapter) (g : Board) (calls : List Call) (answers : Lis
 
 -- losses told: a packet refused with K and one that never came are told by one gap
 abbrev told_calls : List Call
-told_calls = plain 5 0 ∷ note 3 620 1 (pos 0) ∷ plain 621 2 ∷ at 622 (packet by_value damaged 3) ∷ gap 2 ∷ plain 624 19_392_650 ∷ []
+told_calls = plain 5 0 ∷ note 3 620 1 (pos 0) ∷ plain 621 2 ∷ at 622 (packet by_value damaged 3 longest_addressing) ∷ gap 2 ∷ plain 624 19_392_650 ∷ []
 
 abbrev told_replies : List (Reply Report)
 told_replies =
@@ -172,7 +173,7 @@ abbrev k : Board
 k = record { profile = 0; n = 2016; site = 7; tad = 200 }
 
 abbrev mip_calls : List Call
-mip_calls = at 2015 (packet by_value (mip 0x68) 3) ∷ plain 2016 9_999_500 ∷ gap 2014 ∷ at 4031 (packet by_value (mip 0x69) 4) ∷ plain 4032 5 ∷ []
+mip_calls = at 2015 (packet by_value (mip 0x68) 3 7) ∷ plain 2016 9_999_500 ∷ gap 2014 ∷ at 4031 (packet by_value (mip 0x69) 4 255) ∷ plain 4032 5 ∷ []
 
 abbrev mip_replies : List (Reply Report)
 mip_replies =
@@ -182,10 +183,10 @@ mip_replies =
 
 -- behind a radio link card: two packets are lost, and the mark has the adapter's time. An empty packet's tick is not read
 abbrev lost : ℕ → Call
-lost t = at t (packet in_place [] 19_392_658)
+lost t = at t (packet in_place [] 19_392_658 0)
 
 abbrev card_calls : List Call
-card_calls = note 3 620 1 (pos 0) ∷ lost 621 ∷ plain 622 2 ∷ at 623 (packet by_value [] 3) ∷ plain 624 19_392_650 ∷ []
+card_calls = note 3 620 1 (pos 0) ∷ lost 621 ∷ plain 622 2 ∷ at 623 (packet by_value [] 3 64) ∷ plain 624 19_392_650 ∷ []
 
 abbrev card_replies : List (Reply Report)
 card_replies =
@@ -302,7 +303,7 @@ told_by_gaps = note 3 620 1 (pos 0) ∷ gap 1 ∷ gap 1 ∷ gap 1 ∷ gap 1 ∷ 
 pub told_in_place :
     ToldRun A g card_calls × ToldRun C g lost_mark_calls × ToldRun A g told_calls × (by_gaps lost_mark_calls ≡ told_by_gaps)
     × (replies (begun g) told_by_gaps ≡ said (some 620) taken unmarked ∷ said (some 1) absent unmarked ∷ said (some 2) taken unmarked ∷ [])
-unfolding by_gaps enter_call verdict_at judged enter count_place tell_gap untold hear leave start_of packet_of numbers_of gap_of sound settings_kept admits second parts_fit hunting_fits is_unset is_uncounted is_zero locked_fits frequency_fits index_fits waiting_fits is_nothing delay_kept delay_fits delay_fits_a110 within arrival_refusal carries taken_refusal limited judge_arrived judge_given step_of counted passed unheard took mark_at mark_taken notice_taken gapped
+unfolding enter_call verdict_at judged enter count_place tell_gap untold hear leave start_of packet_of numbers_of gap_of sound settings_kept admits second parts_fit hunting_fits is_unset is_uncounted is_zero locked_fits frequency_fits index_fits waiting_fits is_nothing delay_kept delay_fits delay_fits_a110 within arrival_refusal carries taken_refusal limited judge_arrived judge_given step_of counted passed unheard took mark_at mark_taken notice_taken gapped
 told_in_place = (
   record { run = computed.8.run; told = (tt, (refl, (tt, (refl, tt)))) },
   record { run = computed.9.run; told = (tt, (tt, (tt, (tt, (refl, (refl, tt)))))) },
@@ -324,6 +325,7 @@ p3_notice low c₀ c₁ c₂ c₃ =
     (0x47 ∷ 0x60 ∷ 0x15 ∷ 0x10 ∷ 0x00 ∷ 0x13 ∷ 0x00 ∷ 0x00 ∷ 0x80 ∷ 0x00 ∷ 0x90 ∷ 0xF5 ∷ 0x60 ∷ 0x0A ∷ 0xAE ∷ low ∷ 0x00 ∷ 0x00 ∷ 0x00 ∷ 0x00 ∷ 0x00
     ∷ c₀ ∷ c₁ ∷ c₂ ∷ c₃ ∷ replicate 163 0xFF)
     9_000_000
+    longest_addressing
 
 abbrev short : Arrival
 short = p3_notice 0x60 0xDA 0x57 0x73 0x39

@@ -30,7 +30,7 @@ use Rattle.run.proofs.Steps.{stepped, moved, moves, RightStep, board_stays, hunt
 module _ (s : Slave) (ok : sound s ≡ true) where
   pub heard : (a : Arrival) → hear s a ≡ stepped s a
   unfolding hear judged
-  heard (packet form p tick) = packet_is_step s ok p tick
+  heard (packet form p tick limit) = packet_is_step s ok p tick limit
   heard (numbers p tick x) = numbers_is_step s ok p tick x
 
   pub left_by : (c : Call) → leave s c ≡ moved s c
@@ -40,7 +40,7 @@ module _ (s : Slave) (ok : sound s ≡ true) where
 
   pub leave_sound : (c : Call) → sound (leave s c) ≡ true
   unfolding leave hear
-  leave_sound (at t (packet form p tick)) = packet_sound s ok p tick
+  leave_sound (at t (packet form p tick limit)) = packet_sound s ok p tick limit
   leave_sound (at t (numbers p tick x)) = numbers_sound s ok p tick x
   leave_sound (gap k) = gap_sound s ok k
 
@@ -58,7 +58,7 @@ all_left s ok (c ∷ cs) =
 -- a mark that is due is due by the slave's own notice, whatever comes
 pub heard_due : (s : Slave) (a : Arrival) (profile : ℕ) (d : Due) → mark_in (hear s a).reply ≡ due profile d → OwnDue s (tick_of a) profile d
 unfolding hear
-heard_due s (packet form p tick) profile d e = (packet_due s tick profile d p e).own
+heard_due s (packet form p tick limit) profile d e = (packet_due s tick profile d p limit e).own
 heard_due s (numbers p tick x) profile d e = (numbers_due s tick profile d p x e).own
 
 -- ---- a run

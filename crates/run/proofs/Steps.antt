@@ -60,7 +60,7 @@ step_od s b (taken_alike x y z o) t tick e = o
 -- so the slave's judgement is the book's verdict
 verdict_own : (s : Slave) (b : Book) (a : Arrival) → InForce b s → Alike (judged s.board s.settings a) (verdict_at s.board b a)
 unfolding verdict_at judged
-verdict_own s b (packet form p tick) e = packet_alike s.board s.settings _ e p tick
+verdict_own s b (packet form p tick limit) e = packet_alike s.board s.settings _ e p tick limit
 verdict_own s b (numbers p tick x) e = numbers_alike s.board s.settings _ e p tick x
 
 -- ---- one call

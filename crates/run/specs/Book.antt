@@ -14,22 +14,22 @@ pub data Form : Type 0 where
   by_value : Form
   in_place : Form
 
--- what comes at a place; an empty packet comes in the place of one that was lost
+-- what comes at a place; a packet comes with the limit of the board's reader, and an empty one in the place of one that was lost
 pub data Arrival : Type 0 where
-  packet : (form : Form) (bytes : List ℕ) (tick : ℕ) → Arrival
+  packet : (form : Form) (bytes : List ℕ) (tick limit : ℕ) → Arrival
   numbers : (bytes : List ℕ) (tick : ℕ) → Numbers → Arrival
 
 abbrev pub tick_of : Arrival → ℕ
-tick_of (packet form p tick) = tick
+tick_of (packet form p tick limit) = tick
 tick_of (numbers p tick x) = tick
 
 pub data Call : Type 0 where
   at : (place : ℕ) → Arrival → Call
   gap : ℕ → Call
 
--- how the orders of 01 judge what comes
+-- how the papers' orders judge what comes
 unfoldable pub judged : Board → Settings → Arrival → Judgement
-judged g t (packet form p tick) = judge_packet g t p tick
+judged g t (packet form p tick limit) = judge_packet g t p tick limit
 judged g t (numbers p tick x) = judge_numbers g t p tick x
 
 -- ---- the book

@@ -1,6 +1,6 @@
 -- A listener behind a radio link card counts as having been told (document 02, Paper 5). An empty packet leaves what a gap of one leaves; and where all
 -- that is lost is told in its place, by empty packets or by gaps, nothing is untold in what demand 3 says.
-use Rattle.std.specs.Prelude.{ℕ, suc, ◌+◌, ◌≡◌, Bool, List, [], ◌∷◌, ℤ}
+use Rattle.std.specs.Prelude.{ℕ, suc, ◌+◌, ◌≡◌, Bool, List, [], ◌∷◌, map, ℤ}
 use Rattle.std.proofs.Math.Option.{some}
 use Rattle.wire.specs.Reply.{number_of}
 use Rattle.times.specs.Release.{Times, released}
@@ -21,22 +21,21 @@ use Rattle.run.specs.Sentences.{Sentence, InEvery}
 
 -- a gap of one for an empty packet, any other call as it is: `is_empty` holds of `[]` alone
 abbrev pub by_gap : Call → Call
-by_gap (at t (packet form [] tick)) = gap 1
-by_gap (at t (packet form (x ∷ p) tick)) = at t (packet form (x ∷ p) tick)
+by_gap (at t (packet form [] tick limit)) = gap 1
+by_gap (at t (packet form (x ∷ p) tick limit)) = at t (packet form (x ∷ p) tick limit)
 by_gap (at t (numbers p tick x)) = at t (numbers p tick x)
 by_gap (gap k) = gap k
 
-unfoldable pub by_gaps : List Call → List Call
-by_gaps [] = []
-by_gaps (c ∷ cs) = by_gap c ∷ by_gaps cs
+abbrev pub by_gaps : List Call → List Call
+by_gaps = map by_gap
 
--- an empty packet and a gap of one leave the same slave, whatever it was, and 15 for the same ones; its tick does not matter. So two slaves that begin as
+-- an empty packet and a gap of one leave the same slave, whatever it was, and 15 for the same ones; its tick and the limit do not matter. So two slaves that begin as
 -- one, one behind a card and one told by gaps, are one after each call, and every call that both get has one reply; both are in a run, or neither, and one
 -- book is theirs
 pub record OneByGaps : Type 0 where
-  pub tick_unread : (s : Slave) (tick other : ℕ) → packet_of s [] tick ≡ packet_of s [] other
-  pub one_slave : (s : Slave) (tick : ℕ) → (packet_of s [] tick).slave ≡ (gap_of s 1).slave
-  pub one_number : (s : Slave) (tick : ℕ) → number_of (packet_of s [] tick).reply ≡ number_of (gap_of s 1).reply
+  pub unread : (s : Slave) (tick other limit m : ℕ) → packet_of s [] tick limit ≡ packet_of s [] other m
+  pub one_slave : (s : Slave) (tick limit : ℕ) → (packet_of s [] tick limit).slave ≡ (gap_of s 1).slave
+  pub one_number : (s : Slave) (tick limit : ℕ) → number_of (packet_of s [] tick limit).reply ≡ number_of (gap_of s 1).reply
   pub slaves : (s : Slave) (calls : List Call) → slave_after s (by_gaps calls) ≡ slave_after s calls
   pub replies : (s : Slave) (before : List Call) (a : Arrival) → hear (slave_after s (by_gaps before)) a ≡ hear (slave_after s before) a
   pub gaps : (s : Slave) (before : List Call) (k : ℕ) → gap_of (slave_after s (by_gaps before)) k ≡ gap_of (slave_after s before) k

@@ -13,7 +13,7 @@ use Rattle.run.specs.Book.{Arrival, packet, numbers, Call, at, gap, Book, closed
 
 -- what comes, handed to the slave; both forms of the packet call have one definition
 unfoldable pub hear : Slave → Arrival → Result Report
-hear s (packet form p tick) = packet_of s p tick
+hear s (packet form p tick limit) = packet_of s p tick limit
 hear s (numbers p tick x) = numbers_of s p tick x
 
 -- the slave that a call leaves, and a list of them: each call gets the slave that the last one left

@@ -44,13 +44,13 @@ module _ (s : Slave) (p : List ℕ) (tick : ℕ) where
   abbrev pub judged_call : Judgement → Result Report
   judged_call j = unless15 (sound s) (step_of s (unless_refused (arrival_refusal s.board.profile p tick) j) tick)
 
-  pub packet_is : is_empty p ≡ false → judged_call (judge_arrived s.board s.settings p) ≡ packet_of s p tick
+  pub packet_is : (limit : ℕ) → is_empty p ≡ false → judged_call (judge_arrived s.board s.settings p limit) ≡ packet_of s p tick limit
   unfolding packet_of
-  packet_is e = rw e refl
+  packet_is limit e = rw e refl
 
-  pub packet_lost : is_empty p ≡ true → lost_by s ≡ packet_of s p tick
+  pub packet_lost : (limit : ℕ) → is_empty p ≡ true → lost_by s ≡ packet_of s p tick limit
   unfolding packet_of step_of
-  packet_lost e = rw e refl
+  packet_lost limit e = rw e refl
 
   pub numbers_is : (x : Numbers) → judged_call (cond (eqb s.board.profile 0) (Refuse 20) (judge_given s.board s.settings p x)) ≡ numbers_of s p tick x
   unfolding numbers_of

@@ -95,12 +95,12 @@ module _ (s : Slave) (tick profile : ℕ) (d : Due) where
         (λ no. no_mark)
 
     -- of a packet, and of a numbers notice
-    pub packet_due : IfDue (packet_of s p tick).reply
-    packet_due = by_length (is_empty p) refl
+    pub packet_due : (limit : ℕ) → IfDue (packet_of s p tick limit).reply
+    packet_due limit = by_length (is_empty p) refl
       where
-        by_length : (b : Bool) → is_empty p ≡ b → IfDue (packet_of s p tick).reply
-        by_length true e = subst (λ (r : Result Report). IfDue r.reply) (packet_lost s p tick e) (pick (λ (r : Result Report). IfDue r.reply) (sound s) _ _ no_mark no_mark)
-        by_length false e = subst (λ (r : Result Report). IfDue r.reply) (packet_is s p tick e) (call_due _)
+        by_length : (b : Bool) → is_empty p ≡ b → IfDue (packet_of s p tick limit).reply
+        by_length true e = subst (λ (r : Result Report). IfDue r.reply) (packet_lost s p tick limit e) (pick (λ (r : Result Report). IfDue r.reply) (sound s) _ _ no_mark no_mark)
+        by_length false e = subst (λ (r : Result Report). IfDue r.reply) (packet_is s p tick limit e) (call_due _)
 
     pub numbers_due : (x : Numbers) → IfDue (numbers_of s p tick x).reply
     numbers_due x = subst (λ (r : Result Report). IfDue r.reply) (numbers_is s p tick x) (call_due _)
@@ -140,15 +140,15 @@ module _ (s : Slave) (tick profile : ℕ) where
 
   module _ (p : List ℕ) where
     -- every mark that a packet or a numbers notice releases
-    pub packet_within : (t : Times) → mark_in (packet_of s p tick).reply ≡ due profile (released t) → Within s tick profile t
-    packet_within t e = due_within t (packet_due s tick profile (released t) p e)
+    pub packet_within : (limit : ℕ) (t : Times) → mark_in (packet_of s p tick limit).reply ≡ due profile (released t) → Within s tick profile t
+    packet_within limit t e = due_within t (packet_due s tick profile (released t) p limit e)
 
     pub numbers_within : (x : Numbers) (t : Times) → mark_in (numbers_of s p tick x).reply ≡ due profile (released t) → Within s tick profile t
     numbers_within x t e = due_within t (numbers_due s tick profile (released t) p x e)
 
     -- and every mark that they find late
-    pub packet_late : (l : ℕ) → mark_in (packet_of s p tick).reply ≡ due profile (late l) → Late s tick profile l
-    packet_late l e = due_behind l (packet_due s tick profile (late l) p e)
+    pub packet_late : (limit l : ℕ) → mark_in (packet_of s p tick limit).reply ≡ due profile (late l) → Late s tick profile l
+    packet_late limit l e = due_behind l (packet_due s tick profile (late l) p limit e)
 
     pub numbers_late : (x : Numbers) (l : ℕ) → mark_in (numbers_of s p tick x).reply ≡ due profile (late l) → Late s tick profile l
     numbers_late x l e = due_behind l (numbers_due s tick profile (late l) p x e)

@@ -119,9 +119,9 @@ module _ (s : Slave) (ok : sound s ≡ true) where
   step_sound (Takes t) tick f = took_sound t tick f
 
   -- ---- the calls of a sound slave are its steps, and leave a sound slave
-  pub packet_is_step : (p : List ℕ) (tick : ℕ) → packet_of s p tick ≡ step_of s (judge_packet s.board s.settings p tick) tick
+  pub packet_is_step : (p : List ℕ) (tick limit : ℕ) → packet_of s p tick limit ≡ step_of s (judge_packet s.board s.settings p tick limit) tick
   unfolding packet_of
-  packet_is_step p tick = yes (sound s) _ _ ok
+  packet_is_step p tick limit = yes (sound s) _ _ ok
 
   pub numbers_is_step : (p : List ℕ) (tick : ℕ) (x : Numbers) → numbers_of s p tick x ≡ step_of s (judge_numbers s.board s.settings p tick x) tick
   unfolding numbers_of
@@ -131,10 +131,10 @@ module _ (s : Slave) (ok : sound s ≡ true) where
   unfolding gap_of
   gap_is_step k = yes (sound s) _ _ ok
 
-  pub packet_sound : (p : List ℕ) (tick : ℕ) → sound (packet_of s p tick).slave ≡ true
-  packet_sound p tick =
-      ap (λ (r : Result Report). sound r.slave) (packet_is_step p tick)
-      ∙ step_sound (judge_packet s.board s.settings p tick) tick (packet_fit s.board s.settings (fitting s ok).frequency p tick)
+  pub packet_sound : (p : List ℕ) (tick limit : ℕ) → sound (packet_of s p tick limit).slave ≡ true
+  packet_sound p tick limit =
+      ap (λ (r : Result Report). sound r.slave) (packet_is_step p tick limit)
+      ∙ step_sound (judge_packet s.board s.settings p tick limit) tick (packet_fit s.board s.settings (fitting s ok).frequency p tick limit)
 
   pub numbers_sound : (p : List ℕ) (tick : ℕ) (x : Numbers) → sound (numbers_of s p tick x).slave ≡ true
   numbers_sound p tick x =

@@ -31,8 +31,9 @@ ready_refusal s p tick = must (sound s) 15 (arrival_refusal s.board.profile p ti
 unfoldable pub start_of : Board → Result (Unit {0})
 start_of b = unless15 (settings_kept b) (left (hunting b) (given tt))
 
-unfoldable pub packet_of : Slave → List ℕ → ℕ → Result Report
-packet_of s p tick = unless15 (sound s) (step_of s (judge_packet s.board s.settings p tick) tick)
+-- a packet, whose notice is read with the limit given with the call: no slave keeps one
+unfoldable pub packet_of : Slave → List ℕ → (tick limit : ℕ) → Result Report
+packet_of s p tick limit = unless15 (sound s) (step_of s (judge_packet s.board s.settings p tick limit) tick)
 
 unfoldable pub numbers_of : Slave → List ℕ → ℕ → Numbers → Result Report
 numbers_of s p tick x = unless15 (sound s) (step_of s (judge_numbers s.board s.settings p tick x) tick)

@@ -137,10 +137,10 @@ fn go_cold(s: &mut Slave) -> Result<(), Refusal>
 // A packet that arrived right, on a sound slave: what was judged decides which step is taken, and each is one method. A function of one caller, so that
 // the compiler keeps the steps out of memory.
 #[tactic(auto, using(judging::proofs::Judging::arrived_limits), unfolding(crate::specs::Calls::step_of, crate::specs::Step::counted, crate::specs::Step::unheard))]
-fn arrived(r: Ready<'_>, p: &[u8]) -> Way
-    ensures { way_of r.entry.slave.now (Ok result) ≡ step_of r.entry.slave.now (judge_arrived r.entry.slave.now.board r.entry.slave.now.settings p.now) r.entry.tick }
+fn arrived(r: Ready<'_>, p: &[u8], limit: usize) -> Way
+    ensures { way_of r.entry.slave.now (Ok result) ≡ step_of r.entry.slave.now (judge_arrived r.entry.slave.now.board r.entry.slave.now.settings p.now limit) r.entry.tick }
 {
-    match judging::judge_arrived(r.slave.board, r.slave.settings, p) {
+    match judging::judge_arrived(r.slave.board, r.slave.settings, p, limit) {
         Ok(None) => match r.locked() {
             None => Way::Hunts,
             Some(l) if l.ready.slave.count.next == 0 => Way::Marked(l.pass_mark()),
@@ -151,17 +151,17 @@ fn arrived(r: Ready<'_>, p: &[u8]) -> Way
     }
 }
 
-// What a packet with its arrival tick does. An empty one was lost, whatever its tick. Any other is judged in document 01's order, each thing once: 15, then
-// 1 to 3, then 4 and 6 to 13.
+// What a packet with its arrival tick does, its notice read with this limit. An empty one was lost, whatever its tick. Any other is judged in the papers'
+// order, each thing once: 15, then 1 to 3, then 4, 6 to 8, 26 and 9 to 13.
 #[tactic(auto, using(crate::proofs::Calling::packet_lost), unfolding(crate::specs::Calls::packet_of))]
-pub fn way_of(s: &Slave, p: &[u8], tick: u32) -> Result<Way, Refusal>
-    ensures { way_of s.now result ≡ packet_of s.now p.now tick }
+pub fn way_of(s: &Slave, p: &[u8], tick: u32, limit: usize) -> Result<Way, Refusal>
+    ensures { way_of s.now result ≡ packet_of s.now p.now tick limit }
 {
     if p.is_empty() {
         return Ok(Way::Lost);
     }
     let r = Ready::new(s, p, tick)?;
-    Ok(arrived(r, p))
+    Ok(arrived(r, p, limit))
 }
 
 // All that a packet may change, stored in the slave, and the reply.
@@ -222,20 +222,20 @@ fn apply<A: Answer>(s: &mut Slave, way: Result<Way, Refusal>) -> A
     }
 }
 
-// A packet with its arrival tick.
+// A packet with its arrival tick, and the limit with which its notice is read.
 #[inline(always)]
-pub fn packet<A: Answer>(s: &mut Slave, p: &[u8], tick: u32) -> A
-    ensures { Leaves A.says s.new result (packet_of s.old p.now tick) }
+pub fn packet<A: Answer>(s: &mut Slave, p: &[u8], tick: u32, limit: usize) -> A
+    ensures { Leaves A.says s.new result (packet_of s.old p.now tick limit) }
 {
-    let way = way_of(s, p, tick);
+    let way = way_of(s, p, tick, limit);
     apply(s, way)
 }
 
 // The same of a slave that is handed in and back.
-pub fn packet_by_value(mut s: Slave, p: &[u8], tick: u32) -> Left<Counted>
-    ensures { stepped_of result ≡ packet_of s p.now tick }
+pub fn packet_by_value(mut s: Slave, p: &[u8], tick: u32, limit: usize) -> Left<Counted>
+    ensures { stepped_of result ≡ packet_of s p.now tick limit }
 {
-    let reply = packet(&mut s, p, tick);
+    let reply = packet(&mut s, p, tick, limit);
     Left { slave: s, reply }
 }
 

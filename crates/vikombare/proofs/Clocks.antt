@@ -28,9 +28,9 @@ beyond : (profile : ℕ) → in_second (second profile) no_tick ≡ false
 unfolding second
 beyond profile = beyond_both (eqb profile 1)
 
-pub other_clock : (s : Slave) (p : List ℕ) (t : Tick) → sound s ≡ true → length p ≡ packet_length → get_or p 0 0 ≡ sync_byte → eqb s.board.profile t.profile ≡ false
-    → packet_of s p (tick_on s.board.profile t) ≡ left s (refused 3)
-other_clock s p t h l y d =
+pub other_clock : (s : Slave) (p : List ℕ) (t : Tick) (limit : ℕ) → sound s ≡ true → length p ≡ packet_length → get_or p 0 0 ≡ sync_byte → eqb s.board.profile t.profile ≡ false
+    → packet_of s p (tick_on s.board.profile t) limit ≡ left s (refused 3)
+other_clock s p t limit h l y d =
     let none : tick_on s.board.profile t ≡ no_tick = ap (λ (b : Bool). cond b t.count no_tick) d in
     let three = arrival_3 s.board.profile p no_tick l y (beyond s.board.profile) ∙ sym (ready_is s p no_tick h) in
-    ap (packet_of s p) none ∙ sym (call_refused s p no_tick _ 3 three (λ e. omega arith) ∙ packet_is s p no_tick (ap (λ (k : ℕ). eqb k 0) l))
+    ap (λ (k : ℕ). packet_of s p k limit) none ∙ sym (call_refused s p no_tick _ 3 three (λ e. omega arith) ∙ packet_is s p no_tick limit (ap (λ (k : ℕ). eqb k 0) l))

@@ -5,6 +5,7 @@
 #![tactic(auto)]
 
 ghost use Rattle.std.specs.Prelude.{◌≡◌, length};
+ghost use Rattle.wire.specs.Standards.{longest_addressing};
 ghost use Rattle.notice.specs.Mip.{addressing_field};
 ghost use Rattle.notice.specs.Reader.{read_of};
 ghost use Rattle.writer.specs.Writer.{write_of};
@@ -19,7 +20,7 @@ use replies::PacketReply;
 use slave::Way;
 use state::{Board, Slave};
 use times::{Periods, Steps, Unit};
-use wire::Refusal;
+use wire::{LONGEST_ADDRESSING, Refusal};
 
 // An arrival tick with its clock: profile 0 counts steps of 100 ns, profile 1 bit periods. The profile is a number, since C hands in any byte.
 #[repr(C)]
@@ -78,15 +79,20 @@ fn tick_on(profile: u8, tick: Tick) -> u32
     }
 }
 
-// A packet with its arrival tick; of the lent slave, just what changes is stored. A tick of the other clock is none of the slave's (3); of an empty packet
-// none is read. It matches the way itself, and each arm returns: a plain packet takes 17 ns so, and 24 ns by `slave::packet`, whose answers the compiler
-// joins.
+// A packet with its arrival tick, its notice read with this limit; of the lent slave, just what changes is stored. A tick of the other clock is none of the
+// slave's (3); of an empty packet none is read. It matches the way itself, and each arm returns: a plain packet takes 17 ns so, and 24 ns by
+// `slave::packet`, whose answers the compiler joins.
 #[unsafe(no_mangle)]
-pub extern "C" fn vikombare_packet(s: &mut Slave, p: &[u8], tick: Tick) -> PacketReply
-    ensures { flat_left s.new result ≡ flat_step (packet_of s.old p.now (tick_on s.old.board.profile tick)) }
+pub extern "C" fn vikombare_packet_within(
+    s: &mut Slave,
+    p: &[u8],
+    tick: Tick,
+    limit: usize,
+) -> PacketReply
+    ensures { flat_left s.new result ≡ flat_step (packet_of s.old p.now (tick_on s.old.board.profile tick) limit) }
 {
     let t = tick_on(s.board.profile, tick);
-    match slave::way_of(s, p, t) {
+    match slave::way_of(s, p, t, limit) {
         Ok(Way::Short(q)) => {
             s.count.next = q.next;
             return q.report.into();
@@ -116,6 +122,14 @@ pub extern "C" fn vikombare_packet(s: &mut Slave, p: &[u8], tick: Tick) -> Packe
             return replies::number_alone(r.number());
         }
     }
+}
+
+// A packet of the full board, whose limit is 163.
+#[unsafe(no_mangle)]
+pub extern "C" fn vikombare_packet(s: &mut Slave, p: &[u8], tick: Tick) -> PacketReply
+    ensures { flat_left s.new result ≡ flat_step (packet_of s.old p.now (tick_on s.old.board.profile tick) longest_addressing) }
+{
+    vikombare_packet_within(s, p, tick, LONGEST_ADDRESSING)
 }
 
 // A packet that comes with a notice in numbers, profile 1.
@@ -175,12 +189,12 @@ pub extern "C" fn vikombare_a110_resume(
     replies::outcome_number(saved::resume(s, block, board(n, site, tad)))
 }
 
-// Reads a notice of profile 0. No From: the length is the packet's and not the notice's.
+// Reads a notice of profile 0 with this limit. No From: the length is the packet's and not the notice's.
 #[unsafe(no_mangle)]
-pub extern "C" fn vikombare_read(p: &[u8]) -> NoticeRead
-    ensures { result ≡ flat_notice (read_of p.now) (length (addressing_field p.now)) }
+pub extern "C" fn vikombare_read_within(p: &[u8], limit: usize) -> NoticeRead
+    ensures { result ≡ flat_notice (read_of p.now limit) (length (addressing_field p.now)) }
 {
-    match notice::read_notice(p) {
+    match notice::read_notice(p, limit) {
         Ok(notice) => NoticeRead {
             number: 0,
             notice,
@@ -191,6 +205,14 @@ pub extern "C" fn vikombare_read(p: &[u8]) -> NoticeRead
             ..NoticeRead::default()
         },
     }
+}
+
+// Reads one as the full board does.
+#[unsafe(no_mangle)]
+pub extern "C" fn vikombare_read(p: &[u8]) -> NoticeRead
+    ensures { result ≡ flat_notice (read_of p.now longest_addressing) (length (addressing_field p.now)) }
+{
+    vikombare_read_within(p, LONGEST_ADDRESSING)
 }
 
 // Writes a notice of profile 0 in the first 188 bytes that are lent; 0 or the number.

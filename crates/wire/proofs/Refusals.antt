@@ -28,6 +28,7 @@ refusal_positive refusal.OtherBoard e = omega arith
 refusal_positive refusal.OutputLength e = omega arith
 refusal_positive refusal.NoticeField e = omega arith
 refusal_positive refusal.OtherProfile e = omega arith
+refusal_positive refusal.ReaderLimit e = omega arith
 
 -- a reply that gives has no number
 pub given_zero : {A : Type 0} (n : ℕ) (a b : A) → given a ≡ reply n b → n ≡ 0

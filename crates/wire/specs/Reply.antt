@@ -1,4 +1,4 @@
--- What a call answers: a number of document 01's table "Numbers a call can refuse with", or what the call gives.
+-- What a call answers: a number that refuses, of document 01's table "Numbers a call can refuse with" or of document 02, or what the call gives.
 use Rattle.std.specs.Prelude.{ℕ, zero, suc, Bool, true, false, List, Result, Ok, Err}
 use Rattle.wire.specs.declared.Refusal.{Refusal}
 use Rattle.wire.specs.declared.Refusal.TheVariants as refusal
@@ -43,7 +43,7 @@ filled n old new = record { reply = reply n tt; bytes = kept_by n old new }
 
 -- ---- the code's answers in these numbers and values
 
--- the table's number of each refusal
+-- the papers' number of each refusal; 26 is of document 02, Paper 9
 abbrev pub refusal_number : Refusal → ℕ
 refusal_number refusal.NotAPacket = 1
 refusal_number refusal.SyncByte = 2
@@ -65,6 +65,7 @@ refusal_number refusal.OtherBoard = 17
 refusal_number refusal.OutputLength = 18
 refusal_number refusal.NoticeField = 19
 refusal_number refusal.OtherProfile = 20
+refusal_number refusal.ReaderLimit = 26
 
 abbrev pub reply_of : {A : Type 0} → Result A Refusal → Reply A
 reply_of (Ok a) = given a

@@ -24,7 +24,7 @@ pub const CHECK_LENGTH: usize = 4;
 
 pub const LONGEST_ADDRESSING: usize = 163;
 
-// Document 01's table "Numbers a call can refuse with", in its order.
+// Document 01's table "Numbers a call can refuse with", in its order, and the new numbers of document 02.
 #[derive(Clone, Copy, PartialEq, Eq)]
 pub enum Refusal {
     NotAPacket = 1,
@@ -47,10 +47,11 @@ pub enum Refusal {
     OutputLength = 18,
     NoticeField = 19,
     OtherProfile = 20,
+    ReaderLimit = 26,
 }
 
 impl Refusal {
-    // The table's number. A method of the definition's name: a From would say u8 and not of what.
+    // Its number. A method of the definition's name: a From would say u8 and not of what.
     pub fn number(self) -> u8
         ensures { result ≡ refusal_number self }
     {

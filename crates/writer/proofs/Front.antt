@@ -19,7 +19,7 @@ flags_again : (a b : ℕ) (t : Bool) → leb 128 a ≡ t → a < 256 → b < 256
 flags_again a b true e ha hb = omega (arith, leb-true 128 a e)
 flags_again a b false e ha hb = omega (arith, leb-false 128 a e)
 
-module _ (s : List ℕ) (k : Sound s) (bytes : Bytes s) where
+module _ (s : List ℕ) (limit : ℕ) (k : Sound s limit) (bytes : Bytes s) where
   -- the fixed bits of bytes 1 to 3
   second : 0x60 ≡ get_or s 1 0
   second = omega (arith, k.whole, k.start, k.pid, bytes 1, bytes 2)

@@ -1,5 +1,6 @@
--- Reading and writing undo each other, and no packet with one bit changed is read.
---     written_read        what an accepted write wrote is read back as exactly its fields
+-- Reading and writing undo each other, and no packet with one bit changed is read, whatever the reader's limit on the addressing field.
+--     written_read        what an accepted write wrote is read back as exactly its fields, by every reader within whose limit it is
+--     written_over        any other refuses it with 26
 --     written_addressing  and as exactly its addressing field
 --     rewrite_accepted    what was read is accepted by the writer
 --     read_written        what is read and written again is the same packet, where its stuffing is 0xFF
@@ -12,7 +13,7 @@ use native.Mathlib.Decide.{ℕ_discrete}
 use native.Mathlib.Omega.{arith}
 use lib.Bits.{bit_xor}
 use lib.Dec.{leb}
-use lib.ListN.{length, take, drop, get_or, set, length-append, length-drop, take-append-drop}
+use lib.ListN.{length, take, drop, get_or, set, length-append, take-append-drop}
 use lib.Seq.{take_at, take-add, length-take-le, get_or-take, get_or-set_same, get_or-set_other, take-set-lt}
 use borrow.Author.Tests.{le-leb, lt-leb, ltb-true}
 use Rattle.wire.specs.Reply.{refused, given, reply, Output}
@@ -28,10 +29,11 @@ use Rattle.times.specs.Release.{in_second}
 use Rattle.addressing.specs.Entries.{well_formed}
 use Rattle.notice.specs.Mip.{individual_addressing_length, addressing_field, through_check, notice_in}
 use Rattle.writer.specs.Writable.{Writable}
-use Rattle.notice.specs.Reader.{read_refusal, read_of}
+use Rattle.notice.specs.Reader.{limit_of, read_refusal, read_of}
 use Rattle.writer.specs.Writer.{write_refusal, head_of, fields_of, stuffing, mip_of, write_of}
 use Rattle.notice.specs.declared.Notice.{Notice}
-use Rattle.notice.proofs.Sound.{Sound, accepted_sound, sound_reads, reads_sound}
+use Rattle.notice.proofs.Sound.{Sound, accepted_sound, sound_reads, field_whole, reads_sound}
+use Rattle.notice.proofs.Limit.{over_read}
 use Rattle.writer.proofs.Writing.{fields_length, length_stuffing, judged, write_none}
 use Rattle.writer.proofs.Front.{head_again}
 
@@ -97,9 +99,9 @@ module _ (n : Notice) (f : List ℕ) (space : ℕ) (w : Writable space n f) wher
           tps = spelled32 n.tps k.tps i;
         }
 
-    packet_sound : Sound (mip_of n f)
+    packet_sound : (limit : ℕ) → length f ≤ limit_of limit → Sound (mip_of n f) limit
     unfolding mip_of fields_of head_of
-    packet_sound =
+    packet_sound limit h =
         let j = judged space n f e in
         record {
           long = packet_length_lem;
@@ -111,6 +113,7 @@ module _ (n : Notice) (f : List ℕ) (space : ℕ) (w : Writable space n f) wher
           scheme = refl;
           room = w.short;
           section = refl;
+          within = h;
           check = packet_check;
           form = ap well_formed packet_field ∙ j.1;
           sts = ap (in_second dvb_second) (spelled24 n.sts.0 (time_fits n.sts.0 j.2)) ∙ j.2;
@@ -128,11 +131,17 @@ module _ (out : List ℕ) (n : Notice) (f : List ℕ) (e : write_refusal (length
       ap (λ (o : Output). take packet_length o.bytes) (given_output _ out (mip_of n f ++ drop packet_length out) e)
       ∙ take_at (mip_of n f) (drop packet_length out) packet_length (packet_length_lem n f (length out) fitting)
 
-  pub written_read : read_of (take packet_length (write_of out n f).bytes) ≡ given n
-  written_read =
-      ap read_of left
-      ∙ sound_reads (mip_of n f) (packet_sound n f (length out) fitting e k)
+  pub written_read : (limit : ℕ) → length f ≤ limit_of limit → read_of (take packet_length (write_of out n f).bytes) limit ≡ given n
+  written_read limit h =
+      ap (λ (s : List ℕ). read_of s limit) left
+      ∙ sound_reads (mip_of n f) limit (packet_sound n f (length out) fitting e k limit h)
       ∙ ap given (packet_notice n f (length out) fitting e k)
+
+  pub written_over : (limit : ℕ) → limit_of limit < length f → read_of (take packet_length (write_of out n f).bytes) limit ≡ refused 26
+  unfolding mip_of fields_of head_of
+  written_over limit h =
+      ap (λ (s : List ℕ). read_of s limit) left
+      ∙ over_read (mip_of n f) limit h longest_addressing (packet_sound n f (length out) fitting e k longest_addressing fitting.short)
 
   pub written_addressing : addressing_field (take packet_length (write_of out n f).bytes) ≡ f
   unfolding mip_of fields_of head_of
@@ -140,17 +149,17 @@ module _ (out : List ℕ) (n : Notice) (f : List ℕ) (e : write_refusal (length
 
 -- ---- read, then written
 
-module _ (s : List ℕ) (n : Notice) (e : read_of s ≡ given n) (bytes : Bytes s) where
-  sound : Sound s
-  sound = (reads_sound s n e).0
+module _ (s : List ℕ) (limit : ℕ) (n : Notice) (e : read_of s limit ≡ given n) (bytes : Bytes s) where
+  sound : Sound s limit
+  sound = (reads_sound s limit n e).0
 
   field_length : length (addressing_field s) ≡ individual_addressing_length s
-  field_length = length-take-le (individual_addressing_length s) (drop 21 s) (omega (arith, length-drop 21 s, sound.long, sound.room))
+  field_length = field_whole s limit sound
 
   head_front : head_of (notice_in s) (length (addressing_field s)) ≡ take 21 s
   head_front =
       ap (head_of (notice_in s)) field_length
-      ∙ head_again s sound bytes
+      ∙ head_again s limit sound bytes
       ∙ sym (elements_are 21 0 s (omega (arith, sound.long)))
 
   fields_front : fields_of (notice_in s) (addressing_field s) ≡ take (21 + individual_addressing_length s) s
@@ -174,7 +183,7 @@ module _ (s : List ℕ) (n : Notice) (e : read_of s ≡ given n) (bytes : Bytes 
   -- the notice and the addressing field that were read are accepted by the writer, for any output with room
   pub rewrite_accepted : (space : ℕ) → packet_length ≤ space → write_refusal space n (addressing_field s) ≡ 0
   rewrite_accepted space h =
-      subst (λ (m : Notice). write_refusal space m (addressing_field s) ≡ 0) (reads_sound s n e).1
+      subst (λ (m : Notice). write_refusal space m (addressing_field s) ≡ 0) (reads_sound s limit n e).1
       (sym (write_none space (notice_in s) (addressing_field s) room sound.form sound.sts sound.md))
     where
       room : Writable space (notice_in s) (addressing_field s)
@@ -190,7 +199,7 @@ module _ (s : List ℕ) (n : Notice) (e : read_of s ≡ given n) (bytes : Bytes 
   pub same_packet : drop (25 + individual_addressing_length s) s ≡ stuffing (longest_addressing - individual_addressing_length s) → mip_of n (addressing_field s) ≡ s
   unfolding mip_of
   same_packet rest =
-      subst (λ (m : Notice). mip_of m (addressing_field s) ≡ s) (reads_sound s n e).1
+      subst (λ (m : Notice). mip_of m (addressing_field s) ≡ s) (reads_sound s limit n e).1
       whole
     where
       whole : mip_of (notice_in s) (addressing_field s) ≡ s
@@ -213,9 +222,9 @@ module _ (s : List ℕ) (n : Notice) (e : read_of s ≡ given n) (bytes : Bytes 
 
 -- ---- one bit
 
-module _ (s : List ℕ) (bytes : Bytes s) (k : Sound s) (i b : ℕ) (hi : i ≤ 24 + individual_addressing_length s) (hb : b < 8) where
+module _ (s : List ℕ) (bytes : Bytes s) (limit : ℕ) (k : Sound s limit) (i b : ℕ) (hi : i ≤ 24 + individual_addressing_length s) (hb : b < 8) where
   -- a flip in the length of the addressing field is caught by the section's length
-  length_flip : i ≡ 20 → Sound (flipped s i b) → ⊥
+  length_flip : i ≡ 20 → Sound (flipped s i b) limit → ⊥
   length_flip z c =
       let x : ℕ = bit_xor (get_or s i 0) (2 ^ b) in
       let new : get_or (flipped s i b) 20 0 ≡ bit_xor (get_or s 20 0) (2 ^ b) =
@@ -224,7 +233,7 @@ module _ (s : List ℕ) (bytes : Bytes s) (k : Sound s) (i b : ℕ) (hi : i ≤ 
       flip_differs (get_or s 20 0) b (omega (arith, new, old, c.section, k.section))
 
   -- any other flip by the check value
-  other_flip : (i ≡ 20 → ⊥) → Sound (flipped s i b) → ⊥
+  other_flip : (i ≡ 20 → ⊥) → Sound (flipped s i b) limit → ⊥
   other_flip z c =
       let m : ℕ = 25 + individual_addressing_length s in
       let x : ℕ = bit_xor (get_or s i 0) (2 ^ b) in
@@ -238,18 +247,18 @@ module _ (s : List ℕ) (bytes : Bytes s) (k : Sound s) (i b : ℕ) (hi : i ≤ 
       (ap register (sym cut) ∙ c.check ∙ sym k.check)
 
 -- an accepted packet with one bit of its bytes 0 to 24 + a flipped is refused
-pub one_bit_refused : (s : List ℕ) (n : Notice) → read_of s ≡ given n → Bytes s → (i b : ℕ) → i ≤ 24 + individual_addressing_length s → b < 8
-    → (r : ℕ) × (read_of (flipped s i b) ≡ refused (suc r))
+pub one_bit_refused : (s : List ℕ) (limit : ℕ) (n : Notice) → read_of s limit ≡ given n → Bytes s → (i b : ℕ) → i ≤ 24 + individual_addressing_length s → b < 8
+    → (r : ℕ) × (read_of (flipped s i b) limit ≡ refused (suc r))
 unfolding read_of
-one_bit_refused s n e bytes i b hi hb = go (read_refusal (flipped s i b)) refl
+one_bit_refused s limit n e bytes i b hi hb = go (read_refusal (flipped s i b) limit) refl
   where
-    never : Sound (flipped s i b) → ⊥
+    never : Sound (flipped s i b) limit → ⊥
     never c = pick (ℕ_discrete i 20)
       where
         pick : Dec (i ≡ 20) → ⊥
-        pick (yes z) = length_flip s bytes (reads_sound s n e).0 i b hi hb z c
-        pick (no z) = other_flip s bytes (reads_sound s n e).0 i b hi hb z c
+        pick (yes z) = length_flip s bytes limit (reads_sound s limit n e).0 i b hi hb z c
+        pick (no z) = other_flip s bytes limit (reads_sound s limit n e).0 i b hi hb z c
 
-    go : (v : ℕ) → read_refusal (flipped s i b) ≡ v → (r : ℕ) × (read_of (flipped s i b) ≡ refused (suc r))
-    go zero z = absurd (never (accepted_sound (flipped s i b) z))
+    go : (v : ℕ) → read_refusal (flipped s i b) limit ≡ v → (r : ℕ) × (read_of (flipped s i b) limit ≡ refused (suc r))
+    go zero z = absurd (never (accepted_sound (flipped s i b) limit z))
     go (suc r) z = (r, ap (λ (v : ℕ). reply v (notice_in (flipped s i b))) z)

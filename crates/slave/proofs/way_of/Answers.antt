@@ -9,10 +9,10 @@ use Rattle.slave.proofs.way_of.Goals as goal
 pub returns : goal.returns
 returns c =
     let a = c.args in
-    let e = call_steps a.s.now a.p.now a.tick (judge_arrived a.s.now.board a.s.now.settings a.p.now) (sym c.in_ok-r.ensures.refusal) ∙ packet_is a.s.now a.p.now a.tick (cc (c.is_empty.ensures, c.if-is_empty.false)) in
+    let e = call_steps a.s.now a.p.now a.tick (judge_arrived a.s.now.board a.s.now.settings a.p.now a.limit) (sym c.in_ok-r.ensures.refusal) ∙ packet_is a.s.now a.p.now a.tick a.limit (cc (c.is_empty.ensures, c.if-is_empty.false)) in
     cc (e, c.arrived.ensures, c.in_ok-r.ensures.value.0, c.in_ok-r.ensures.value.1)
 
 pub returns-in_err-r : goal.returns-in_err-r
 returns-in_err-r c =
     let p = err_from_is_err_and c.from_residual.result c.from_residual.ensures.1 in
-    rw (p.1, p.2) (call_refused _ _ _ _ _ c.in_err-r.ensures.refusal (refusal_positive _) ∙ packet_is _ _ _ (cc (c.is_empty.ensures, c.if-is_empty.false)))
+    rw (p.1, p.2) (call_refused _ _ _ _ _ c.in_err-r.ensures.refusal (refusal_positive _) ∙ packet_is _ _ _ _ (cc (c.is_empty.ensures, c.if-is_empty.false)))
