@@ -31,7 +31,7 @@ extern "C" {
     fn probe_admits(profile: u8, n: u16) -> bool;
     fn probe_label(n: u16, pointer: u16) -> Label;
     fn probe_mobile_place(i: u8, p: u16) -> u16;
-    fn probe_packet(slave: CSlave, p: *const u8, length: usize, tick: u32) -> CStep;
+    fn probe_packet(slave: CSlave, p: *const u8, length: usize, tick: u32, limit: usize) -> CStep;
     fn probe_handed(slave: CSlave, p: *const u8, length: usize, tick: u32) -> CStep;
 }
 
@@ -69,10 +69,16 @@ pub fn mobile_place(i: u8, p: u16) -> u16 {
     unsafe { probe_mobile_place(i, p) }
 }
 
-/// A packet by value.
+/// A packet by value, read with this limit.
+#[inline(always)]
+pub fn packet_within(slave: CSlave, p: &[u8], tick: u32, limit: usize) -> CStep {
+    unsafe { probe_packet(slave, p.as_ptr(), p.len(), tick, limit) }
+}
+
+/// The same with the full board's limit.
 #[inline(always)]
 pub fn packet(slave: CSlave, p: &[u8], tick: u32) -> CStep {
-    unsafe { probe_packet(slave, p.as_ptr(), p.len(), tick) }
+    packet_within(slave, p, tick, basics::FULL)
 }
 
 #[inline(always)]

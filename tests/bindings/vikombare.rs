@@ -82,12 +82,14 @@ extern "C" {
     fn vikombare_dvb_start(slave: *mut CSlave, n: u16, site: u16, tad: Steps) -> u8;
     fn vikombare_a110_start(slave: *mut CSlave, n: u16, site: u16, tad: Periods) -> u8;
     fn vikombare_packet(slave: *mut CSlave, packet: *const u8, length: usize, arrival: Tick) -> Reply;
+    fn vikombare_packet_within(slave: *mut CSlave, packet: *const u8, length: usize, arrival: Tick, limit: usize) -> Reply;
     fn vikombare_numbers(slave: *mut CSlave, packet: *const u8, length: usize, arrival: Periods, notice: CNumbers) -> Reply;
     fn vikombare_gap(slave: *mut CSlave, k: u16) -> u8;
     fn vikombare_save(slave: CSlave, out: *mut u8, length: usize) -> u8;
     fn vikombare_dvb_resume(slave: *mut CSlave, block: *const u8, length: usize, n: u16, site: u16, tad: Steps) -> u8;
     fn vikombare_a110_resume(slave: *mut CSlave, block: *const u8, length: usize, n: u16, site: u16, tad: Periods) -> u8;
     fn vikombare_read(packet: *const u8, length: usize) -> CReading;
+    fn vikombare_read_within(packet: *const u8, length: usize, limit: usize) -> CReading;
     fn vikombare_write(out: *mut u8, out_length: usize, notice: CNotice, addressing: *const u8, addressing_length: usize) -> u8;
 }
 
@@ -122,6 +124,12 @@ pub fn start(profile: u8, n: u16, site: u16, tad: u32) -> CChange {
 #[inline(always)]
 pub fn packet(slave: &mut CSlave, p: &[u8], profile: u8, count: u32) -> Reply {
     unsafe { vikombare_packet(slave, p.as_ptr(), p.len(), Tick { profile, count }) }
+}
+
+/// The same, its notice read with this limit.
+#[inline(always)]
+pub fn packet_within(slave: &mut CSlave, p: &[u8], profile: u8, count: u32, limit: usize) -> Reply {
+    unsafe { vikombare_packet_within(slave, p.as_ptr(), p.len(), Tick { profile, count }, limit) }
 }
 
 /// A numbers notice in place.
@@ -165,6 +173,11 @@ pub fn resume(block: &[u8], profile: u8, n: u16, site: u16, tad: u32) -> CChange
 #[inline(always)]
 pub fn read(p: &[u8]) -> CReading {
     unsafe { vikombare_read(p.as_ptr(), p.len()) }
+}
+
+#[inline(always)]
+pub fn read_within(p: &[u8], limit: usize) -> CReading {
+    unsafe { vikombare_read_within(p.as_ptr(), p.len(), limit) }
 }
 
 #[inline(always)]

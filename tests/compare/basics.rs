@@ -4,7 +4,7 @@ use super::comparison::{Cases, Compared, Comparison, Subject};
 use crate::bindings::answers::Reading;
 use crate::bindings::vikombare::Reply;
 use crate::bindings::{probe, vikombare};
-use crate::inputs::calls::{Call, Lent, Said};
+use crate::inputs::calls::{Call, Lent, Limit, Said};
 use crate::inputs::moments::{self, Moment};
 use crate::inputs::notices::{self, WRONG_FORMS};
 use crate::inputs::random::{hex, Hex};
@@ -16,7 +16,7 @@ pub struct Basics;
 impl Subject for Basics {
     const NAME: &'static str = "the basics";
     const REQUIRED: fn() -> Cases = required;
-    const FAULTS: &'static [Fault] = faults::BASICS;
+    const FAULTS: &'static [&'static [Fault]] = &[faults::BASICS, faults::LIMIT];
     // nothing is kept from call to call
     const LONGEST: usize = 1;
     const SHORTENED: bool = false;
@@ -28,6 +28,7 @@ impl Subject for Basics {
     fn sweeps(comparison: &mut Comparison<Self>) -> Compared {
         comparison.sweep_lengths()?;
         comparison.sweep_packet_bytes()?;
+        comparison.sweep_limits()?;
         comparison.sweep_residues()?;
         comparison.sweep_flips()?;
         comparison.sweep_times()?;
@@ -50,16 +51,40 @@ impl Comparison<Basics> {
         Ok(())
     }
 
+    /// As the full board reads it.
     fn read(&mut self, packet: &[u8]) -> Compared<Reading> {
+        self.read_within(packet, None)
+    }
+
+    fn read_within(&mut self, packet: &[u8], limit: Limit) -> Compared<Reading> {
         let lent = Lent::new(&mut self.random, packet);
-        let Said::Reading(reading) = self.first(Call::Read(lent))?.said else { unreachable!("a read gives a reading") };
+        let Said::Reading(reading) = self.first(Call::Read(lent, limit))?.said else { unreachable!("a read gives a reading") };
         self.listed("read", "number", reading.number)?;
         self.saw("read", "of length", packet.len() as i64);
         if reading.number == 0 {
             self.saw("read", "accepted with a", reading.addressing as i64);
             self.write_again(packet, &reading)?;
         }
+        if let (Some(limit), 188) = (limit, packet.len()) {
+            self.saw_limited(packet[20].into(), limit as i64, reading.number);
+        }
         Ok(reading)
+    }
+
+    /// Counts what a reader with this limit gave.
+    fn saw_limited(&mut self, a: i64, limit: i64, number: u8) {
+        match number {
+            0 => {
+                self.saw("read", "accepted, a less the limit", a - limit);
+                self.saw("read", "accepted, by a limit of", limit);
+            }
+            26 => {
+                self.saw("read", "26, a less the limit", a - limit);
+                self.saw("read", "26, by a limit of", limit);
+            }
+            8 if a > 163 => self.saw("read", "8 by a above 163, by a limit of", limit),
+            _ => {}
+        }
     }
 
     /// An accepted packet, written again, is the same packet with stuffing of 0xFF.
@@ -194,7 +219,8 @@ impl Comparison<Basics> {
         match r.below(20) {
             0..=6 => {
                 let packet = notices::damaged(r, site);
-                self.read(&packet)?;
+                let limit = notices::limit(r, &packet);
+                self.read_within(&packet, limit)?;
             }
             7..=10 => {
                 let length = if r.one_in(3) { r.below(301) } else { r.pick(&[188, 188, 187, 189]) };
@@ -341,6 +367,29 @@ impl Comparison<Basics> {
         Ok(())
     }
 
+    /// Every length of addressing field with every limit of the papers and those beside its own length: whole, with a wrong check value, with a wrong
+    /// section length, with a form of its own or a wrong one; and lengths above 163.
+    fn sweep_limits(&mut self) -> Compared {
+        for a in 0..=255_usize {
+            let notice = notices::notice(&mut self.random);
+            let field = notices::field_of_length(&mut self.random, 7, a).unwrap_or(vec![0; a]);
+            let mut whole = notices::packet_of(&notice, &field[..if [1, 2, 4].contains(&a) || a > 163 { 0 } else { a }]);
+            (whole[5], whole[20]) = ((a + 19) as u8, a as u8);
+            notices::reseal(&mut whole);
+            for limit in notices::LIMITS.into_iter().chain((a.saturating_sub(2)..a + 2).map(Some)) {
+                self.read_within(&whole, limit)?;
+                for at in [5, (24 + a).min(187)] {
+                    let mut packet = whole.clone();
+                    packet[at] ^= 1;
+                    self.read_within(&packet, limit)?;
+                    notices::reseal(&mut packet);
+                    self.read_within(&packet, limit)?;
+                }
+            }
+        }
+        Ok(())
+    }
+
     /// Check values that leave a register of one bit, or of one byte, instead of zero.
     fn sweep_residues(&mut self) -> Compared {
         let residues = (0..32).map(|k| 1 << k).chain((1..256).flat_map(|byte| [0, 8, 16, 24].map(|k| byte << k)));
@@ -426,7 +475,12 @@ fn required() -> Cases {
     let lengths: Vec<i64> = (0..=300).collect();
     let field_lengths: Vec<i64> = (0..=163).filter(|a| ![1, 2, 4].contains(a)).collect();
     let mut list = vec![
-        ("read", "number", vec![0, 1, 2, 4, 5, 6, 7, 8, 9, 10, 11]),
+        ("read", "number", vec![0, 1, 2, 4, 5, 6, 7, 8, 26, 9, 10, 11]),
+        ("read", "accepted, a less the limit", vec![-1, 0]),
+        ("read", "accepted, by a limit of", vec![0, 63, 64, 65, 162, 163, 164, 255, 256]),
+        ("read", "26, a less the limit", vec![1, 2]),
+        ("read", "26, by a limit of", (0..=162).collect()),
+        ("read", "8 by a above 163, by a limit of", vec![0, 64, 163, 255]),
         ("read", "of length", lengths.clone()),
         ("read", "accepted with a", field_lengths.clone()),
         ("read", "register left at other than zero", vec![9]),

@@ -4,7 +4,7 @@
 use super::comparison::{Cases, Compared, Comparison, Difference, Subject};
 use super::{shrink, simpler};
 use crate::bindings::vikombare::{Reply, Times};
-use crate::inputs::calls::{self, Board, Call, Code, Form, Lent};
+use crate::inputs::calls::{self, Board, Call, Code, Form, Lent, Limit};
 use crate::inputs::notices::{self, WRONG_FORMS};
 use crate::inputs::random::Random;
 use crate::inputs::streams::*;
@@ -20,7 +20,7 @@ impl Subject for Runs {
     const NAME: &'static str = "runs by the book";
     const REQUIRED: fn() -> Cases = required;
     // those against which demand 3 stands
-    const FAULTS: &'static [Fault] = &[
+    const FAULTS: &'static [&'static [Fault]] = &[&[
         Fault::RefusalUncounted,
         Fault::LabelOffByOne,
         Fault::SlipKeepsCount,
@@ -28,6 +28,7 @@ impl Subject for Runs {
         Fault::NewNoticeReleased,
         Fault::FirstNoticeStays,
         Fault::LateKept,
+        Fault::LimitRefusesCall,
         Fault::EmptyCounted,
         Fault::EmptyUntold,
         Fault::EmptyKeepsNotice,
@@ -35,7 +36,7 @@ impl Subject for Runs {
         Fault::GapOf16Bits,
         Fault::GapKeepsMark,
         Fault::GapNeverDrops,
-    ];
+    ]];
     const LONGEST: usize = 7;
 
     /// A stream with two slaves on it: the proved one's, or faulty ones where a fault is seeded.
@@ -76,7 +77,7 @@ struct Open {
 
 impl Book {
     /// Judges a call by the start's settings and the book's OD.
-    fn judge(&self, packet: &[u8], tick: u32, numbers: Option<&Numbers>) -> Judged {
+    fn judge(&self, packet: &[u8], tick: u32, limit: Limit, numbers: Option<&Numbers>) -> Judged {
         let Adapter { profile, n, .. } = self.adapter;
         let second = self.adapter.second();
         if packet.is_empty() && numbers.is_none() {
@@ -106,7 +107,7 @@ impl Book {
             }
             (pointer, sts, md, od)
         } else if profile == 0 && [packet[1] & 0x1F, packet[2]] == [0, 0x15] {
-            let (notice, field) = match basics::read(packet) {
+            let (notice, field) = match basics::read_within(packet, limit.unwrap_or(basics::FULL)) {
                 Ok(read) => read,
                 Err(number) => return Judged::Ignored(number),
             };
@@ -189,12 +190,12 @@ impl Books {
         let listener = &mut self.listeners[step.who];
         let outcome = (self.code)(&step.call, listener.slave);
         let before = std::mem::replace(&mut listener.slave, outcome.slave);
-        let (packet, tick, numbers) = match &step.call {
-            Call::Packet { packet, tick, form } => {
+        let (packet, tick, limit, numbers) = match &step.call {
+            Call::Packet { packet, tick, form, limit } => {
                 saw("packet in place (0), by value (1)", i64::from(*form == Form::ByValue));
-                (packet, *tick, None)
+                (packet, *tick, *limit, None)
             }
-            Call::Numbers { packet, tick, numbers } => (packet, *tick, Some(numbers)),
+            Call::Numbers { packet, tick, numbers } => (packet, *tick, None, Some(numbers)),
             Call::Gap(k) => {
                 hold("a gap's number", outcome.number(), 0)?;
                 if let Some(open) = &mut listener.book.open {
@@ -205,7 +206,7 @@ impl Books {
             }
             _ => unreachable!("a run has packets, numbers notices and gaps"),
         };
-        let judged = listener.book.judge(packet.bytes(), tick, numbers);
+        let judged = listener.book.judge(packet.bytes(), tick, limit, numbers);
         let reply = outcome.step().reply;
 
         // the whole call's number, and the notice's part but for a slip
@@ -375,7 +376,8 @@ impl Comparison<Runs> {
             for place in first..first + std::mem::take(&mut told) {
                 let r = &mut self.random;
                 let tick = any_tick(r, &books.listeners[who].slave);
-                let call = Call::Packet { form: r.pick(&[Form::InPlace, Form::ByValue]), packet: Lent::new(r, &[]), tick };
+                let call =
+                    Call::Packet { form: r.pick(&[Form::InPlace, Form::ByValue]), packet: Lent::new(r, &[]), tick, limit: notices::limit(r, &[]) };
                 self.book_step(books, Step { who, place, call }, steps)?;
             }
         }
@@ -387,10 +389,11 @@ impl Comparison<Runs> {
         let Listener { slave, book, .. } = &books.listeners[who];
         let (packet, numbers) = adapters_packet(&mut self.random, book, way.place);
         let tick = any_tick(&mut self.random, slave);
+        let limit = notices::limit(&mut self.random, &packet);
         let packet = Lent::new(&mut self.random, &packet);
         let call = match numbers {
             Some(numbers) => Call::Numbers { packet, tick, numbers },
-            None => Call::Packet { form: self.random.pick(&[Form::InPlace, Form::ByValue]), packet, tick },
+            None => Call::Packet { form: self.random.pick(&[Form::InPlace, Form::ByValue]), packet, tick, limit },
         };
         let counted = self.book_step(books, Step { who, place: way.place, call }, steps)?;
         // a packet refused as a whole comes again, or is gone
@@ -413,10 +416,13 @@ impl Comparison<Runs> {
         let simpler = |step: &Step| {
             // a packet that counts keeps its notice, which is the adapter's, or becomes a null packet
             let calls = match &step.call {
-                Call::Packet { form, packet, tick } if matches!(packet.bytes(), [0x47, rest @ ..] if rest.len() == 187) && *tick < second => {
+                Call::Packet { form, packet, tick, limit } if matches!(packet.bytes(), [0x47, rest @ ..] if rest.len() == 187) && *tick < second => {
                     let null = Lent::alone(notices::null());
-                    let plain = (*packet != null).then_some(Call::Packet { form: *form, packet: null, tick: *tick });
-                    plain.into_iter().chain((*tick > 0).then_some(Call::Packet { form: *form, packet: packet.clone(), tick: 0 })).collect()
+                    let plain = (*packet != null).then_some(Call::Packet { form: *form, packet: null, tick: *tick, limit: *limit });
+                    plain
+                        .into_iter()
+                        .chain((*tick > 0).then_some(Call::Packet { form: *form, packet: packet.clone(), tick: 0, limit: *limit }))
+                        .collect()
                 }
                 call @ Call::Gap(_) => simpler::simpler(call),
                 Call::Packet { packet, .. } if packet.bytes().is_empty() => vec![Call::Gap(1)],
@@ -500,7 +506,7 @@ fn required() -> Cases {
         (BOOK, "before the first notice", vec![0]),
         (BOOK, "first notice on label", vec![0, 623]),
         (BOOK, "refused with", vec![1, 2, 3, 20]),
-        (BOOK, "ignored with", vec![0, 4, 6, 7, 8, 9, 10, 11, 12, 13]),
+        (BOOK, "ignored with", vec![0, 4, 6, 7, 8, 26, 9, 10, 11, 12, 13]),
         (BOOK, "packet in place (0), by value (1)", vec![0, 1]),
         (BOOK, "gap", vec![0, 1]),
         (BOOK, "empty packet with tick U or more", vec![0, 1]),

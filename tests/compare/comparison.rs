@@ -21,7 +21,7 @@ pub trait Subject: Sized {
     const REQUIRED: fn() -> Cases;
 
     /// The faults that are tried. Of what a failing sequence consists, how many its shortest may have, and whether the sequences are longer at first.
-    const FAULTS: &'static [Fault];
+    const FAULTS: &'static [&'static [Fault]];
     const ITEMS: &'static str = "calls";
     const LONGEST: usize;
     const SHORTENED: bool = true;
@@ -171,12 +171,12 @@ fn covered<S: Subject>(seed: u64, count: u64, whole: bool) -> bool {
 
 /// Every fault in turn: each must make a difference, whose failing sequence becomes short and still fails.
 fn find_faults<S: Subject>(seed: u64, count: u64) -> bool {
-    let (faults, cases) = (S::FAULTS, S::REQUIRED());
+    let (faults, cases) = (S::FAULTS.concat(), S::REQUIRED());
     let (longest, items, name) = (S::LONGEST, S::ITEMS, S::NAME);
     let mut missed = 0;
     // how long the failing sequences were before
     let mut before = 0;
-    for &fault in faults {
+    for &fault in &faults {
         let what = fault.what();
         let mut comparison = Comparison::<S>::new(seed, &cases, true);
         faults::seed(Some(fault));

@@ -25,7 +25,7 @@ impl Subject for Captures {
     // a capture takes a process and its pipes
     const MOST: u64 = 20_000;
     const REQUIRED: fn() -> Cases = required;
-    const FAULTS: &'static [Fault] = faults::LOG;
+    const FAULTS: &'static [&'static [Fault]] = &[faults::LOG];
     const ITEMS: &'static str = "records";
     const LONGEST: usize = 4;
 

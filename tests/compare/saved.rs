@@ -13,7 +13,7 @@ pub struct Blocks;
 impl Subject for Blocks {
     const NAME: &'static str = "the saved block";
     const REQUIRED: fn() -> Cases = required;
-    const FAULTS: &'static [Fault] = faults::SAVED;
+    const FAULTS: &'static [&'static [Fault]] = &[faults::SAVED];
     // a save or a resume, at most with the resume that the slave came from
     const LONGEST: usize = 2;
     const SHORTENED: bool = false;

@@ -1,7 +1,7 @@
 //! Simpler calls, for shortening a failing sequence.
 
 use super::shrink::smaller;
-use crate::inputs::calls::{Board, Call, Lent};
+use crate::inputs::calls::{Board, Call, Lent, Limit};
 use crate::inputs::notices;
 use crate::other::basics::{self, Notice};
 use crate::other::slave::{Numbers, Slave, UNKNOWN};
@@ -27,9 +27,11 @@ pub fn simpler(call: &Call) -> Vec<Call> {
     match call {
         Call::Hand(slave) => simpler_slaves(slave).into_iter().map(Call::Hand).collect(),
         Call::Start(board) => simpler_boards(board).into_iter().map(Call::Start).collect(),
-        Call::Packet { form, packet, tick } => {
-            let packets = simpler_packets(packet).into_iter().map(|packet| Call::Packet { form: *form, packet, tick: *tick });
-            packets.chain(words(*tick).map(|tick| Call::Packet { form: *form, packet: packet.clone(), tick })).collect()
+        Call::Packet { form, packet, tick, limit } => {
+            let packets = simpler_packets(packet).into_iter().map(|packet| (packet, *tick, *limit));
+            let ticks = words(*tick).map(|tick| (packet.clone(), tick, *limit));
+            let limits = limits(*limit).map(|limit| (packet.clone(), *tick, limit));
+            packets.chain(ticks).chain(limits).map(|(packet, tick, limit)| Call::Packet { form: *form, packet, tick, limit }).collect()
         }
         Call::Numbers { packet, tick, numbers } => {
             let packets = simpler_packets(packet).into_iter().map(|packet| (packet, *tick, *numbers));
@@ -43,7 +45,10 @@ pub fn simpler(call: &Call) -> Vec<Call> {
             let blocks = simpler_bytes(block).into_iter().map(|block| Call::Resume(block, *board));
             blocks.chain(simpler_boards(board).into_iter().map(|board| Call::Resume(block.clone(), board))).collect()
         }
-        Call::Read(packet) => simpler_packets(packet).into_iter().map(Call::Read).collect(),
+        Call::Read(packet, limit) => {
+            let packets = simpler_packets(packet).into_iter().map(|packet| Call::Read(packet, *limit));
+            packets.chain(limits(*limit).map(|limit| Call::Read(packet.clone(), limit))).collect()
+        }
         Call::Write { out, notice, field } => {
             let outs = simpler_bytes(out).into_iter().map(|out| (out, *notice, field.clone()));
             let notices = simpler_notices(notice).into_iter().map(|notice| (out.clone(), notice, field.clone()));
@@ -59,6 +64,11 @@ fn words(x: u32) -> impl Iterator<Item = u32> {
 
 fn pairs(x: u16) -> impl Iterator<Item = u16> {
     words(x.into()).map(|less| less as u16)
+}
+
+/// No limit, then lower ones.
+fn limits(limit: Limit) -> impl Iterator<Item = Limit> {
+    limit.into_iter().flat_map(|limit| std::iter::once(None).chain(smaller(limit as u64).into_iter().map(|less| Some(less as usize))))
 }
 
 /// Numbers nearer to 0, of the same sign.

@@ -97,6 +97,9 @@ impl fmt::Debug for Lent {
     }
 }
 
+/// The limit of a call's reader on the addressing field; none for the full board's call, which gives none.
+pub type Limit = Option<usize>;
+
 /// How a packet is handed over: in place, with a tick of the slave's own clock; by value; or in place with a tick of this profile's clock.
 #[derive(Clone, Copy, Debug, PartialEq)]
 pub enum Form {
@@ -115,6 +118,7 @@ pub enum Call {
         form: Form,
         packet: Lent,
         tick: u32,
+        limit: Limit,
     },
     Numbers {
         packet: Lent,
@@ -124,7 +128,7 @@ pub enum Call {
     Gap(u16),
     Save(Lent),
     Resume(Lent, Board),
-    Read(Lent),
+    Read(Lent, Limit),
     Write {
         out: Lent,
         notice: Notice,
@@ -187,24 +191,33 @@ pub type Code = fn(&Call, Slave) -> Outcome;
 /// The proved code.
 pub fn ours(call: &Call, slave: Slave) -> Outcome {
     let keeping = |said| Outcome { slave, said };
-    let lending = |lent: &Lent, clock, tick| {
+    let lending = |lent: &Lent, clock, tick, limit| {
         let mut lent_slave = slave.into();
-        let reply = vikombare::packet(&mut lent_slave, lent.bytes(), clock, tick);
+        let reply = match limit {
+            None => vikombare::packet(&mut lent_slave, lent.bytes(), clock, tick),
+            Some(limit) => vikombare::packet_within(&mut lent_slave, lent.bytes(), clock, tick, limit),
+        };
         Step { slave: lent_slave.into(), reply }.into()
     };
     match call {
         Call::Hand(slave) => Outcome { slave: *slave, said: Said::Nothing },
         Call::Start(b) => Change::from(vikombare::start(b.profile, b.n, b.site, b.tad)).into(),
-        Call::Packet { form: Form::InPlace, packet, tick } => lending(packet, slave.profile, *tick),
-        Call::Packet { form: Form::OfClock(clock), packet, tick } => lending(packet, *clock, *tick),
-        Call::Packet { form: Form::ByValue, packet, tick } => Step::from(probe::packet(slave.into(), packet.bytes(), *tick)).into(),
+        Call::Packet { form: Form::InPlace, packet, tick, limit } => lending(packet, slave.profile, *tick, *limit),
+        Call::Packet { form: Form::OfClock(clock), packet, tick, limit } => lending(packet, *clock, *tick, *limit),
+        Call::Packet { form: Form::ByValue, packet, tick, limit } => by_value(slave, packet, *tick, *limit),
         Call::Numbers { packet, tick, numbers } => Step::from(vikombare::numbers(slave.into(), packet.bytes(), *tick, numbers)).into(),
         Call::Gap(k) => Change::from(vikombare::gap(slave.into(), *k)).into(),
         Call::Save(out) => keeping(out.written(|bytes| vikombare::save(slave.into(), bytes))),
         Call::Resume(block, b) => Change::from(vikombare::resume(block.bytes(), b.profile, b.n, b.site, b.tad)).into(),
-        Call::Read(packet) => keeping(Said::Reading(vikombare::read(packet.bytes()).into())),
+        Call::Read(packet, None) => keeping(Said::Reading(vikombare::read(packet.bytes()).into())),
+        Call::Read(packet, Some(limit)) => keeping(Said::Reading(vikombare::read_within(packet.bytes(), *limit).into())),
         Call::Write { out, notice, field } => keeping(out.written(|bytes| vikombare::write(bytes, notice, field))),
     }
+}
+
+/// A packet that the proved code gets by value, where each call gives a limit.
+fn by_value(slave: Slave, packet: &Lent, tick: u32, limit: Limit) -> Outcome {
+    Step::from(probe::packet_within(slave.into(), packet.bytes(), tick, limit.unwrap_or(basics::FULL))).into()
 }
 
 /// The other implementation.
@@ -213,15 +226,15 @@ pub fn other(call: &Call, slave: Slave) -> Outcome {
     match call {
         Call::Hand(slave) => Outcome { slave: *slave, said: Said::Nothing },
         Call::Start(b) => Change::from(Slave::start(b.profile, b.n, b.site, b.tad)).into(),
-        Call::Packet { form: Form::OfClock(clock), packet, tick } if *clock != slave.profile => {
+        Call::Packet { form: Form::OfClock(clock), packet, tick, .. } if *clock != slave.profile => {
             Step::from(slave.foreign_packet(packet.bytes(), *tick)).into()
         }
-        Call::Packet { packet, tick, .. } => Step::from(slave.packet_by_value(packet.bytes(), *tick)).into(),
+        Call::Packet { packet, tick, limit, .. } => Step::from(slave.packet_within(packet.bytes(), *tick, limit.unwrap_or(basics::FULL))).into(),
         Call::Numbers { packet, tick, numbers } => Step::from(slave.numbers_by_value(packet.bytes(), *tick, numbers)).into(),
         Call::Gap(k) => Change::from(slave.gap_by_value(*k)).into(),
         Call::Save(out) => keeping(out.written(|bytes| saved::save(&slave, bytes).err().unwrap_or(0))),
         Call::Resume(block, b) => Change::from(saved::resume(block.bytes(), b.profile, b.n, b.site, b.tad)).into(),
-        Call::Read(packet) => keeping(Said::Reading(basics::read(packet.bytes()).into())),
+        Call::Read(packet, limit) => keeping(Said::Reading(basics::read_within(packet.bytes(), limit.unwrap_or(basics::FULL)).into())),
         Call::Write { out, notice, field } => keeping(out.written(|bytes| basics::write(bytes, notice, field).err().unwrap_or(0))),
     }
 }
@@ -241,8 +254,8 @@ pub fn agreed(call: &Call, slave: Slave) -> Result<Outcome, (Outcome, Outcome)> 
     if ours != other {
         return Err((ours, other));
     }
-    if let Call::Packet { form: Form::InPlace, packet, tick } = call {
-        let by_value = Outcome::from(Step::from(probe::packet(slave.into(), packet.bytes(), *tick)));
+    if let Call::Packet { form: Form::InPlace, packet, tick, limit } = call {
+        let by_value = by_value(slave, packet, *tick, *limit);
         if by_value != other {
             return Err((by_value, other));
         }

@@ -24,7 +24,7 @@ impl Moment {
 
     /// The mark's packet, a null packet.
     pub fn mark(&self) -> Call {
-        Call::Packet { form: Form::InPlace, packet: Lent::alone(null()), tick: self.arrival }
+        Call::Packet { form: Form::InPlace, packet: Lent::alone(null()), tick: self.arrival, limit: None }
     }
 }
 

@@ -1,5 +1,6 @@
 //! Notices, their addressing fields and packets: sound ones, wrong ones and damaged ones.
 
+use super::calls::Limit;
 use super::random::Random;
 use crate::other::basics::{self, Notice};
 
@@ -175,6 +176,21 @@ pub fn wrong_field(r: &mut Random, site: u16, kind: usize) -> Vec<u8> {
 fn length_but(r: &mut Random, tag: u8, own: usize) -> Vec<u8> {
     let length = r.pick(&[2, 3, 4, 5, 6, 7, 20]);
     function_of(r, tag, if length == own { own + 1 } else { length })
+}
+
+/// Limits of a reader: the full board's call with none, those of the papers and about them, and the highest that a call can give.
+pub const LIMITS: [Limit; 11] =
+    [None, Some(0), Some(63), Some(64), Some(65), Some(162), Some(163), Some(164), Some(255), Some(256), Some(usize::MAX)];
+
+/// The limit of a reader that gets this packet: most often the full board's, and often on the length of the packet's addressing field or beside it.
+pub fn limit(r: &mut Random, packet: &[u8]) -> Limit {
+    let a = packet.get(20).copied().unwrap_or(0);
+    match r.below(8) {
+        0..=4 => None,
+        5 => r.pick(&LIMITS),
+        6 => Some(r.near(a.into()).max(0) as usize),
+        _ => Some(r.below(300)),
+    }
 }
 
 // ---- Packets

@@ -1,5 +1,5 @@
 //! The basics, which keep no state and on which the slave stands: the check value, notices read and written, the addressing field, the times of a
-//! mark, and the cadence. From document 01, Papers 2 and 3 of document 02, and ETSI TS 101 191.
+//! mark, and the cadence. From document 01, Papers 2, 3 and 9 of document 02, and ETSI TS 101 191.
 
 use super::faults::{rule, Fault::*};
 
@@ -53,6 +53,17 @@ pub fn register(bytes: &[u8]) -> u32 {
     bytes.iter().fold(u32::MAX, |z, byte| (z << 8) ^ TABLE[usize::from((z >> 24) as u8 ^ byte)])
 }
 
+/// The full board's limit on the addressing field, and the highest that there is (02, Paper 9).
+pub const FULL: usize = 163;
+
+/// Number 26: an addressing field of this length is above the reader's own limit.
+pub fn over_limit(a: usize, limit: usize) -> bool {
+    let highest = rule(FULL, LimitZeroed, 0);
+    let highest = rule(highest, LimitLess164, limit.wrapping_sub(164));
+    let limit = if limit > FULL { highest } else { limit };
+    rule(rule(a > limit, LimitExcluded, a >= limit), LimitUnjudged, false)
+}
+
 // ---- The MIP (TS 101 191, clause 6, table 1; 01, "The MIP, 188 bytes, big-endian")
 
 #[derive(Clone, Copy, Debug, Default, PartialEq)]
@@ -73,13 +84,18 @@ impl Notice {
     }
 }
 
-/// The reader: numbers 1, 2, 4 to 11 in this order; then the fields, and the packet's own addressing bytes.
+/// The full board's reader: numbers 1, 2, 4 to 11 in this order; then the fields, and the packet's own addressing bytes.
 pub fn read(packet: &[u8]) -> Result<(Notice, &[u8]), u8> {
-    read_with(register, packet)
+    read_within(packet, FULL)
+}
+
+/// A reader of this limit: it has 26 between 8 and 9.
+pub fn read_within(packet: &[u8], limit: usize) -> Result<(Notice, &[u8]), u8> {
+    read_with(register, packet, limit)
 }
 
 /// The reader over a check register of the caller's choice.
-pub fn read_with(register: impl Fn(&[u8]) -> u32, packet: &[u8]) -> Result<(Notice, &[u8]), u8> {
+pub fn read_with(register: impl Fn(&[u8]) -> u32, packet: &[u8], limit: usize) -> Result<(Notice, &[u8]), u8> {
     let p: &[u8; 188] = packet.try_into().map_err(|_| 1)?;
     refuse(2, p[0] != 0x47)?;
     let pid = u16::from_be_bytes([p[1], p[2]]) & rule(0x1FFF, PidLowByteOnly, 0x00FF);
@@ -91,10 +107,12 @@ pub fn read_with(register: impl Fn(&[u8]) -> u32, packet: &[u8]) -> Result<(Noti
     refuse(6, start_and_priority != 0x60 || rule(scrambling_and_adaptation != 0x10, AdaptationFree, p[3] & 0xC0 != 0))?;
     refuse(7, p[4] != 0)?;
     let a = usize::from(p[20]);
+    refuse(26, rule(false, LimitBeforeLengths, over_limit(a, limit)))?;
     refuse(8, usize::from(p[5]) != rule(19 + a, SectionLengthModulo256, (19 + a) % 256))?;
     // a section length of at most 182: the section lies in the packet
     let section = p.get(..25 + a).ok_or(rule(8, SectionLengthModulo256, 9))?;
     let check = register(section);
+    refuse(26, over_limit(a, limit) && rule(true, LimitAfterCheck, check == 0))?;
     refuse(9, rule(check, CheckLosesLastByte, check >> 8) != 0)?;
     let field = &section[21..21 + a];
     let flags = u16::from_be_bytes([p[8], p[9]]);

@@ -79,6 +79,15 @@ faults! {
         PointerOfN: "a pointer of n or more is taken for label 0",
         PlaceOffByOne: "the M/H place counts from 36",
     ;
+    /// A reader's own limit, in a read and in a packet.
+    LIMIT:
+        LimitUnjudged: "a reader's limit is not judged",
+        LimitExcluded: "an addressing field of exactly the limit is 26",
+        LimitZeroed: "a limit above 163 is taken as 0",
+        LimitLess164: "a limit above 163 is taken as what it has above 163, from 0 on",
+        LimitBeforeLengths: "26 is judged before 8",
+        LimitAfterCheck: "26 is judged after 9",
+    ;
     /// The slave.
     SLAVE:
         StartOnAnyTad: "start accepts a TAD of a second or more",
@@ -108,6 +117,9 @@ faults! {
         EmptyKeepsIndex: "an empty packet on label 0 does not raise the index",
         EmptyHunts: "an empty packet makes the slave hunt",
         EmptyOfNumbers: "a numbers notice with an empty packet is a gap of one",
+        LimitRefusesCall: "26 refuses the whole call",
+        LimitOfAnyPid: "26 is judged for every packet",
+        LongTakenUnread: "a notice above the limit is taken, its addressing field unread",
         ErrorOfNoticesAlone: "4 is judged for PID 0x15 alone",
         A110ReadsMip: "in profile 1 the packet call takes a MIP",
         ErrorBeforeProfile: "in a numbers notice 4 is judged before 20",

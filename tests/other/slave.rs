@@ -1,7 +1,7 @@
 //! The slave: start, packet, numbers notice and gap, and which slaves count as cold.
-//! From document 01 and document 02's Paper 5, over the basics. An error is the number that refuses the whole call.
+//! From document 01 and document 02's Papers 5 and 9, over the basics. An error is the number that refuses the whole call.
 
-use super::basics::{self, second, Settings, Times, A110_SECOND, DVB_SECOND};
+use super::basics::{self, over_limit, second, Settings, Times, A110_SECOND, DVB_SECOND, FULL};
 use super::faults::{rule, Fault::*};
 
 // ---- The slave (01, "Steps of a slave", "Saved block")
@@ -143,9 +143,9 @@ impl Slave {
 
     // ---- Packets
 
-    /// A packet with its arrival tick, in place.
+    /// A packet with its arrival tick, in place, as the full board reads it.
     pub fn packet(&mut self, packet: &[u8], tick: u32) -> Result<Reply, u8> {
-        self.packet_with(basics::register, packet, tick)
+        self.packet_with(basics::register, packet, tick, FULL)
     }
 
     /// The same, by value.
@@ -154,8 +154,14 @@ impl Slave {
         (self, reply)
     }
 
-    /// A packet, over a check register of the caller's choice. Numbers 15, 1, 2, 3 refuse the call; 4, 6 to 13 its notice. An empty one was lost.
-    pub fn packet_with(&mut self, register: impl Fn(&[u8]) -> u32, packet: &[u8], tick: u32) -> Result<Reply, u8> {
+    /// A packet that a reader of this limit reads, by value.
+    pub fn packet_within(mut self, packet: &[u8], tick: u32, limit: usize) -> (Slave, Result<Reply, u8>) {
+        let reply = self.packet_with(basics::register, packet, tick, limit);
+        (self, reply)
+    }
+
+    /// A packet, over a check register of the caller's choice. Numbers 15, 1, 2, 3 refuse the call; 4, 6 to 8, 26, 9 to 13 its notice. An empty one was lost.
+    pub fn packet_with(&mut self, register: impl Fn(&[u8]) -> u32, packet: &[u8], tick: u32, limit: usize) -> Result<Reply, u8> {
         if rule(true, EmptyUnawake, !packet.is_empty()) {
             self.awake()?;
         }
@@ -168,10 +174,15 @@ impl Slave {
         let notice = if rule(error, ErrorOfNoticesAlone, error && pid == 0x15) {
             Err(4)
         } else if rule(self.profile == 0, A110ReadsMip, true) && pid == 0x15 {
-            self.judge(register, p).map(Some)
+            self.judge(register, p, limit).map(Some)
+        } else if rule(false, LimitOfAnyPid, over_limit(p[20].into(), limit)) {
+            Err(26)
         } else {
             Ok(None)
         };
+        if matches!(notice, Err(26)) && rule(false, LimitRefusesCall, true) {
+            return Err(26);
+        }
         Ok(self.step(notice, tick))
     }
 
@@ -259,8 +270,8 @@ impl Slave {
         }
     }
 
-    /// A packet of the MIP's PID: numbers 6 to 13. The addressing field is walked once, for its form and for this site's settings.
-    fn judge(&mut self, register: impl Fn(&[u8]) -> u32, p: &[u8; 188]) -> Result<Accepted, u8> {
+    /// A packet of the MIP's PID: numbers 6 to 8, 26, 9 to 13. The addressing field is walked once, for its form and for this site's settings.
+    fn judge(&mut self, register: impl Fn(&[u8]) -> u32, p: &[u8; 188], limit: usize) -> Result<Accepted, u8> {
         if p[1] & 0x60 != 0x60 || p[3] & 0xF0 != 0x10 {
             return Err(6);
         }
@@ -268,14 +279,23 @@ impl Slave {
             return Err(7);
         }
         let a = usize::from(p[20]);
+        let over = over_limit(a, limit);
+        if rule(false, LimitBeforeLengths, over) {
+            return Err(26);
+        }
         if a > 163 || usize::from(p[5]) != 19 + a {
             return Err(8);
         }
-        if register(&p[..25 + a]) != 0 {
+        let check = register(&p[..25 + a]);
+        if rule(over, LongTakenUnread, false) && rule(true, LimitAfterCheck, check == 0) {
+            return Err(26);
+        }
+        if check != 0 {
             return Err(9);
         }
         let before = Settings { od: self.od, frequency: self.frequency, power: self.power };
-        let settings = basics::settings(&p[21..21 + a], self.site, before)?;
+        let field = &p[21..21 + rule(a, LongTakenUnread, if over { 0 } else { a })];
+        let settings = basics::settings(field, self.site, before)?;
         let (sts, md) = (u32::from_be_bytes([0, p[10], p[11], p[12]]), u32::from_be_bytes([0, p[13], p[14], p[15]]));
         if sts >= DVB_SECOND || md >= DVB_SECOND {
             return Err(11);

@@ -26,7 +26,7 @@ fn plain_read(packet: &[u8]) -> Reading {
 
 #[inline(never)]
 fn nibbles_read(packet: &[u8]) -> Reading {
-    basics::read_with(register_by_nibbles, packet).into()
+    basics::read_with(register_by_nibbles, packet, basics::FULL).into()
 }
 
 #[inline(never)]

@@ -7,7 +7,7 @@ use crate::bindings::slave::CSlave;
 use crate::bindings::{probe, vikombare};
 use crate::inputs::notices;
 use crate::inputs::random::Random;
-use crate::other::basics::Notice;
+use crate::other::basics::{Notice, FULL};
 use crate::other::saved;
 use crate::other::slave::{Numbers, Reply, Slave, LOCKED, UNKNOWN};
 use std::hint::black_box;
@@ -22,13 +22,13 @@ fn by_value(slave: Slave, packet: &[u8], tick: u32) -> Step {
 
 #[inline(never)]
 fn nibbles_by_value(mut slave: Slave, packet: &[u8], tick: u32) -> Step {
-    let reply = slave.packet_with(register_by_nibbles, packet, tick);
+    let reply = slave.packet_with(register_by_nibbles, packet, tick, FULL);
     (slave, reply).into()
 }
 
 #[inline(never)]
 fn bytes_by_value(mut slave: Slave, packet: &[u8], tick: u32) -> Step {
-    let reply = slave.packet_with(register_by_bytes, packet, tick);
+    let reply = slave.packet_with(register_by_bytes, packet, tick, FULL);
     (slave, reply).into()
 }
 
@@ -39,12 +39,12 @@ fn in_place(slave: &mut Slave, packet: &[u8], tick: u32) -> Result<Reply, u8> {
 
 #[inline(never)]
 fn nibbles_in_place(slave: &mut Slave, packet: &[u8], tick: u32) -> Result<Reply, u8> {
-    slave.packet_with(register_by_nibbles, packet, tick)
+    slave.packet_with(register_by_nibbles, packet, tick, FULL)
 }
 
 #[inline(never)]
 fn bytes_in_place(slave: &mut Slave, packet: &[u8], tick: u32) -> Result<Reply, u8> {
-    slave.packet_with(register_by_bytes, packet, tick)
+    slave.packet_with(register_by_bytes, packet, tick, FULL)
 }
 
 #[inline(never)]

@@ -8,6 +8,7 @@ pub fn all(v: &mut Vectors) {
     check_values(v);
     notices(v);
     unread(v);
+    limits(v);
     unwritten(v);
     addressing(v);
     releases(v);
@@ -84,17 +85,19 @@ const ENTRIES: [u8; 56] = [
     0xA0, 0x0E, 0xB9, 0xB4,
 ];
 
-/// The longest section, 182 bytes: one private function of 160, whose body counts 0, 1, 2 and on.
-fn longest() -> [u8; 188] {
-    let mut packet = [0; 188];
-    packet[..25].copy_from_slice(&PLAIN);
-    packet[5] = 182;
-    packet[20..26].copy_from_slice(&[163, 0x00, 0x07, 160, 0x03, 160]);
-    for k in 0..158 {
-        packet[26 + k] = k as u8;
-    }
-    packet[184..].copy_from_slice(&[0x88, 0x2B, 0x56, 0x5E]);
-    packet
+/// A field of a bytes: one private function, whose body counts 0, 1, 2 and on.
+fn private(a: u8, check: [u8; 4]) -> Vec<u8> {
+    let mut bytes = PLAIN[..21].to_vec();
+    (bytes[5], bytes[20]) = (19 + a, a);
+    bytes.extend([0x00, 0x07, a - 3, 0x03, a - 3]);
+    bytes.extend(0..a - 5);
+    bytes.extend(check);
+    bytes
+}
+
+/// The longest section, 182 bytes.
+fn longest() -> Vec<u8> {
+    private(163, [0x88, 0x2B, 0x56, 0x5E])
 }
 
 fn section(name: &str, section: &[u8]) -> Packet {
@@ -123,6 +126,34 @@ fn notices(v: &mut Vectors) {
         v.write(name, 188, notice, field);
         v.write(&format!("{name}, two bytes more"), 190, notice, field);
     }
+}
+
+/// Addressing fields of 0, 63, 64, 65, 162 and 163 bytes against limits 0, 64, 163 and 255, and a of 164 and 255, which are 8 whatever the limit. 26 comes
+/// after 8 and before 9, 10 and 11.
+fn limits(v: &mut Vectors) {
+    let plain = section("plain", &PLAIN);
+    let of_65 = section("private, a 65", &private(65, [0x65, 0x40, 0xB2, 0x14]));
+    for (a, packet) in [
+        (0, plain.clone()),
+        (63, section("private, a 63", &private(63, [0x71, 0xD1, 0xE4, 0x79]))),
+        (64, section("private, a 64", &private(64, [0x29, 0x4E, 0xEC, 0x99]))),
+        (65, of_65.clone()),
+        (162, section("private, a 162", &private(162, [0xF4, 0x31, 0xEA, 0x23]))),
+        (163, section("longest", &longest())),
+        (164, plain.with(&[(5, 183), (20, 164)])),
+        (255, plain.with(&[(5, 18), (20, 255)])),
+    ] {
+        for limit in [0, 64, 163, 255] {
+            v.read_within(&format!("a {a}, limit {limit}"), &packet, Some(limit));
+        }
+    }
+    v.read_within("exactly its own limit", &of_65, Some(65));
+    v.read_within("7 before 26", &of_65.with(&[(4, 1)]), Some(64));
+    v.read_within("8 before 26", &of_65.with(&[(5, 85)]), Some(64));
+    v.read_within("26 before 9", &of_65.with(&[(89, 0x15)]), Some(64));
+    v.read_within("9 within the limit", &of_65.with(&[(89, 0x15)]), Some(65));
+    v.read_within("26 before 10 and 11", &of_65.with(&[(10, 0xFF), (24, 1)]).sealed(), Some(64));
+    v.read_within("10 within the limit", &of_65.with(&[(10, 0xFF), (24, 1)]).sealed(), Some(65));
 }
 
 fn unread(v: &mut Vectors) {

@@ -20,7 +20,7 @@ mod slave;
 use bindings::answers::Reading;
 use bindings::probe;
 use bindings::vikombare::{Mark, Reply, Times};
-use inputs::calls::{self, Board, Call, Code, Form, Lent, Outcome, Said};
+use inputs::calls::{self, Board, Call, Code, Form, Lent, Limit, Outcome, Said};
 use inputs::moments::Moment;
 use inputs::notices;
 use inputs::random::Hex;
@@ -63,8 +63,12 @@ impl Vectors {
     }
 
     fn read(&self, name: &str, packet: &Packet) {
-        let Said::Reading(reading) = self.said(Call::Read(Lent::alone(packet.bytes.clone()))) else { unreachable!("a read gives a reading") };
-        self.line(name, format!("read {}", packet.text), reading_text(&reading));
+        self.read_within(name, packet, None);
+    }
+
+    fn read_within(&self, name: &str, packet: &Packet, limit: Limit) {
+        let Said::Reading(reading) = self.said(Call::Read(Lent::alone(packet.bytes.clone()), limit)) else { unreachable!("a read gives a reading") };
+        self.line(name, format!("read {}{}", packet.text, limit_text(limit)), reading_text(&reading));
     }
 
     fn write(&self, name: &str, length: usize, notice: Notice, field: &[u8]) {
@@ -90,7 +94,7 @@ impl Vectors {
     /// A mark that a notice waits for, by the packet call.
     fn release(&self, name: &str, profile: u8, [sts, md, tad, arrival]: [u32; 4], od: i16) {
         let moment = Moment { sts, md, od, tad, arrival };
-        let (outcome, other_form) = self.in_both_forms(moment.slave(profile), &notices::null(), arrival);
+        let (outcome, other_form) = self.in_both_forms(moment.slave(profile), &notices::null(), arrival, None);
         let Reply { number, mark, .. } = outcome.step().reply;
         let output = numbered(number, || mark_text(profile, &mark).unwrap_or(String::from("no mark")));
         self.line(name, format!("a mark due in profile {profile}, STS {sts} MD {md} OD {od} TAD {tad} arrival {arrival}"), output + &other_form);
@@ -156,19 +160,23 @@ impl Vectors {
     }
 
     /// A packet in place; and what it gives by value, where that is not the same.
-    fn in_both_forms(&self, slave: Slave, packet: &[u8], tick: u32) -> (Outcome, String) {
+    fn in_both_forms(&self, slave: Slave, packet: &[u8], tick: u32, limit: Limit) -> (Outcome, String) {
         let [in_place, by_value] = [Form::InPlace, Form::ByValue].map(|form| {
             let packet = Lent::alone(packet.to_vec());
-            (self.code)(&Call::Packet { form, packet, tick }, slave)
+            (self.code)(&Call::Packet { form, packet, tick, limit }, slave)
         });
         let other_form = if in_place == by_value { String::new() } else { format!(", by value {by_value:?}") };
         (in_place, other_form)
     }
 
     fn packet(&mut self, name: &str, packet: &Packet, tick: u32) {
-        let (outcome, other_form) = self.in_both_forms(self.slave, &packet.bytes, tick);
+        self.packet_within(name, packet, tick, None);
+    }
+
+    fn packet_within(&mut self, name: &str, packet: &Packet, tick: u32, limit: Limit) {
+        let (outcome, other_form) = self.in_both_forms(self.slave, &packet.bytes, tick, limit);
         let output = reply_text(self.slave.profile, &outcome.step().reply) + &other_form;
-        self.left(name, format!("{} at {tick}", packet.text), outcome, output);
+        self.left(name, format!("{} at {tick}{}", packet.text, limit_text(limit)), outcome, output);
     }
 
     fn numbers(&mut self, name: &str, packet: &Packet, tick: u32, numbers: Numbers) {
@@ -246,6 +254,11 @@ fn notice(pointer: u16, sts: u32, md: u32, field: &[u8]) -> Packet {
         text += &format!(" field {}", hex(field));
     }
     Packet { text, bytes: notices::packet_of(&Notice { pointer, sts, md, ..Notice::default() }, field) }
+}
+
+/// The limit of the reader, where the call gives one.
+fn limit_text(limit: Limit) -> String {
+    limit.map_or_else(String::new, |limit| format!(" with limit {limit}"))
 }
 
 fn hex(bytes: &[u8]) -> String {

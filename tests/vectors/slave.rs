@@ -9,6 +9,7 @@ pub fn all(v: &mut Vectors) {
     reckoned(v);
     refusals(v);
     empty(v);
+    limits(v);
     steps(v);
     late(v);
     indexes(v);
@@ -165,6 +166,39 @@ fn empty(v: &mut Vectors) {
     v.packet("mark 19 is lost", &none, 19_392_658);
     v.packet("the packet behind it has its place", &null, 5);
     v.numbers("1 before 3 and 11: no bytes, profile 1", &none, 19_392_658, Numbers { sts: u32::MAX, ..numbers });
+}
+
+/// An OD for site 7, and one private function that fills the field up to a bytes.
+fn filled(a: u8, od: i16) -> Vec<u8> {
+    let mut field = offset_entry(7, od);
+    field.extend([0x00, 0x07, a - 10, 0x03, a - 10]);
+    field.resize(a.into(), 0);
+    field
+}
+
+/// A gap-filler: a notice of 65 bytes teaches it nothing, hunting, off the mark, on a mark that is released and on an untimed one. Profile 1 has no limit.
+fn limits(v: &mut Vectors) {
+    let null = null();
+    let of = |pointer, a| notice(pointer, 9_500_000, 700_000, &filled(a, -51));
+    let gap_filler = Some(64);
+    v.start("a gap-filler", 0, 2016, 7, 0);
+    v.packet_within("65 bytes, hunting", &of(3, 65), 5, gap_filler);
+    v.packet_within("a plain packet, hunting", &null, 5, gap_filler);
+    v.packet_within("8 before 26, hunting", &of(3, 65).with(&[(5, 85)]), 5, gap_filler);
+    v.packet_within("64 bytes", &of(3, 64), 5, gap_filler);
+    v.packet_within("65 bytes, another MD and OD", &notice(2, 1, 52, &filled(65, -52)), 5, gap_filler);
+    v.packet_within("26 before 9", &of(1, 65).with(&[(89, 0), (88, 0)]), 5, gap_filler);
+    v.packet_within("4 before 26", &of(0, 65).with(&[(1, 0xE0)]), 5, gap_filler);
+    v.packet_within("65 bytes on the mark", &of(2015, 65), 9_900_000, gap_filler);
+    v.gap("up to the next mark", 2015);
+    v.packet_within("65 bytes on a mark with no notice", &of(2015, 65), 5, gap_filler);
+    v.packet_within("a limit of 0 reads no field", &of(2014, 20), 5, Some(0));
+    v.packet_within("a limit of 255 reads all", &of(2013, 163), 5, Some(255));
+    v.packet_within("and 9 whatever is there", &of(2012, 163).with(&[(187, 0), (186, 0)]), 5, Some(usize::MAX));
+    v.packet_within("164 bytes by a limit of 255", &null.with(&[(1, 0x60), (2, 0x15), (4, 0), (5, 183), (20, 164)]), 5, Some(255));
+    v.packet_within("255 bytes by a limit of 64", &null.with(&[(1, 0x60), (2, 0x15), (4, 0), (5, 18), (20, 255)]), 5, gap_filler);
+    v.start("a gap-filler of profile 1", 1, 624, 7, 0);
+    v.packet_within("65 bytes, profile 1", &of(3, 65), 5, Some(0));
 }
 
 fn steps(v: &mut Vectors) {

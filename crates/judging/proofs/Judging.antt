@@ -33,7 +33,11 @@ module _ (profile : ℕ) (p : List ℕ) (tick : ℕ) where
     unfolding arrival_refusal
     arrival_3 h = grind (arith, nat_tests)
 
-  -- a packet that is not refused has a tick of the second
+  -- a packet that is not refused has 188 bytes, and a tick of the second
+  pub arrived_length : arrival_refusal profile p tick ≡ 0 → length p ≡ packet_length
+  unfolding arrival_refusal
+  arrived_length e = grind (arith, nat_tests)
+
   pub arrived_tick : arrival_refusal profile p tick ≡ 0 → in_second (second profile) tick ≡ true
   unfolding arrival_refusal
   arrived_tick e = grind (arith, nat_tests)

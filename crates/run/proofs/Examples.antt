@@ -160,7 +160,8 @@ other_calls = note 3 620 1 (negsuc 29) ∷ gap 3 ∷ plain 624 10 ∷ []
 abbrev other_replies : List (Reply Report)
 other_replies = said (some 620) taken unmarked ∷ said (some 0) absent (in_bits 42 12 11 1) ∷ []
 
--- profile 0: a MIP, stuffed to 188 bytes, with an OD of −5 for site 7, and later the same with a bit damaged
+-- profile 0: a MIP, stuffed to 188 bytes, with an OD of −5 for site 7, and later the same with a bit damaged. Its addressing field has 7 bytes: a reader of
+-- limit 7 takes it as one of 163 does, and one of limit 6 takes nothing from it, damaged or not (document 02, Paper 9)
 abbrev mip : ℕ → List ℕ
 mip last =
     0x47 ∷ 0x60 ∷ 0x15 ∷ 0x10 ∷ 0x00 ∷ 0x1A ∷ 0x00 ∷ 0x00 ∷ 0x80 ∷ 0x00 ∷ 0x98 ∷ 0x92 ∷ 0x98 ∷ 0x00 ∷ 0x04 ∷ 0x4C ∷ 0x00 ∷ 0x00 ∷ 0x00 ∷ 0x00 ∷ 0x07
@@ -173,13 +174,15 @@ abbrev k : Board
 k = record { profile = 0; n = 2016; site = 7; tad = 200 }
 
 abbrev mip_calls : List Call
-mip_calls = at 2015 (packet by_value (mip 0x68) 3 7) ∷ plain 2016 9_999_500 ∷ gap 2014 ∷ at 4031 (packet by_value (mip 0x69) 4 255) ∷ plain 4032 5 ∷ []
+mip_calls =
+    at 2014 (packet in_place (mip 0x68) 2 6) ∷ at 2015 (packet by_value (mip 0x68) 3 7) ∷ plain 2016 9_999_500 ∷ gap 2014
+    ∷ at 4031 (packet by_value (mip 0x69) 4 255) ∷ plain 4032 5 ∷ gap 2014 ∷ at 6047 (packet in_place (mip 0x69) 6 6) ∷ plain 6048 7 ∷ []
 
 abbrev mip_replies : List (Reply Report)
 mip_replies =
-    said (some 2015) taken unmarked
+    said none (ignored 26) unmarked ∷ said (some 2015) taken unmarked
     ∷ said (some 0) absent (due 0 (released (record { reference = 100; emission = 95; modulation = 9_999_895; wait = pos 395 })))
-    ∷ said (some 2015) (ignored 9) unmarked ∷ said (some 0) absent untimed ∷ []
+    ∷ said (some 2015) (ignored 9) unmarked ∷ said (some 0) absent untimed ∷ said (some 2015) (ignored 26) unmarked ∷ said (some 0) absent untimed ∷ []
 
 -- behind a radio link card: two packets are lost, and the mark has the adapter's time. An empty packet's tick is not read
 abbrev lost : ℕ → Call
@@ -213,7 +216,7 @@ pub computed :
     × Computed A g back_calls back_replies (false ∷ false ∷ false ∷ false ∷ [])
     × Computed Z g mark_calls mark_replies (false ∷ true ∷ true ∷ [])
     × Computed A h other_calls other_replies (false ∷ true ∷ [])
-    × Computed B k mip_calls mip_replies (false ∷ true ∷ true ∷ true ∷ [])
+    × Computed B k mip_calls mip_replies (false ∷ false ∷ true ∷ true ∷ true ∷ true ∷ true ∷ [])
     × Computed A g card_calls card_replies (false ∷ true ∷ true ∷ true ∷ true ∷ [])
     × Computed C g lost_mark_calls lost_mark_replies (false ∷ true ∷ true ∷ true ∷ true ∷ true ∷ true ∷ [])
 unfolding places enter_call verdict_at judged enter count_place tell_gap untold hear leave start_of packet_of numbers_of gap_of sound settings_kept admits is_mega_frame at_some_rate second parts_fit hunting_fits is_unset is_uncounted is_zero locked_fits frequency_fits index_fits waiting_fits is_nothing delay_kept delay_fits delay_fits_a110 within arrival_refusal carries taken_refusal limited judge_mip judge_arrived judge_given step_of counted passed unheard took mark_at mark_taken notice_taken release_at due_of wrap modulation link_delay gapped section_refusal settings_of entries_in functions_of functions_in length_fits set_by addressed register register_from bits_in bit_in
@@ -254,7 +257,7 @@ computed = (
     booked = refl;
   },
   record {
-    run = record { accepted = refl; rising = (lit≤ tt, (lit≤ tt, (lit≤ tt, (lit≤ tt, tt)))); genuine = (record { points = refl; here = refl }, (tt, (tt, (tt, (tt, tt))))) };
+    run = record { accepted = refl; rising = (lit≤ tt, (lit≤ tt, (lit≤ tt, (lit≤ tt, (lit≤ tt, (lit≤ tt, (lit≤ tt, tt))))))); genuine = (tt, (record { points = refl; here = refl }, (tt, (tt, (tt, (tt, (tt, (tt, (tt, tt))))))))) };
     replied = refl;
     booked = refl;
   },

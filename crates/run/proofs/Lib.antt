@@ -5,5 +5,6 @@ pub mod Steps
 pub mod Run
 pub mod Sentences
 pub mod Card
+pub mod Filler
 pub mod Late
 pub mod Examples

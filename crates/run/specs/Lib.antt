@@ -6,3 +6,4 @@ pub mod Claim
 pub mod Sentences
 pub mod Card
 pub mod Late
+pub mod Filler

@@ -4,3 +4,4 @@ pub mod Calling
 pub mod Sound
 pub mod Due
 pub mod Longer
+pub mod Limit

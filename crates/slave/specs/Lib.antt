@@ -4,3 +4,4 @@ pub mod Step
 pub mod Gap
 pub mod Calls
 pub mod Ways
+pub mod Limit

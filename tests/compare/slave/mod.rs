@@ -6,14 +6,14 @@ mod sweeps;
 use super::comparison::{Cases, Compared, Comparison, Subject};
 use crate::other::basics::{dvb_cadences, second, A110_SECOND, DVB_SECOND};
 use crate::other::faults::{self, Fault};
-use runs::{EMPTY, FOREIGN, NUMBERS, PACKET, RUN};
+use runs::{EMPTY, FOREIGN, LIMITED, NUMBERS, PACKET, RUN};
 
 pub struct Calls;
 
 impl Subject for Calls {
     const NAME: &'static str = "the slave";
     const REQUIRED: fn() -> Cases = required;
-    const FAULTS: &'static [Fault] = faults::SLAVE;
+    const FAULTS: &'static [&'static [Fault]] = &[faults::SLAVE, faults::LIMIT];
     const LONGEST: usize = 4;
 
     fn random(comparison: &mut Comparison<Self>) -> Compared {
@@ -24,6 +24,7 @@ impl Subject for Calls {
         comparison.sweep_starts()?;
         comparison.sweep_lengths()?;
         comparison.sweep_empty()?;
+        comparison.sweep_limits()?;
         comparison.sweep_parts()?;
         comparison.sweep_ticks()?;
         comparison.sweep_late()?;
@@ -58,6 +59,14 @@ fn required() -> Cases {
         (EMPTY, "on the mark (10) with pending (1)", vec![0, 1, 10, 11]),
         (EMPTY, "on the mark with index", indexes.iter().copied().chain([255]).collect()),
         (EMPTY, "before the mark with pending", vec![0, 1]),
+        (LIMITED, "taken, a less the limit", vec![-1, 0]),
+        (LIMITED, "taken, by a limit of", vec![64, 163, 164, 255, 256]),
+        (LIMITED, "26, a less the limit", vec![1, 2]),
+        (LIMITED, "26, by a limit of", vec![0, 63, 64, 65, 162]),
+        (LIMITED, "26, of a hunting (1), a locked slave (2)", vec![1, 2]),
+        (LIMITED, "26, with a wrong check value", vec![1]),
+        (LIMITED, "8 by a above 163, by a limit of", vec![0, 64, 163, 255]),
+        (LIMITED, "plain, or of profile 1, with byte 20 above the limit", vec![0, 1]),
         (NUMBERS, "number", vec![0, 15, 1, 2, 3, 20]),
         (NUMBERS, "of length", lengths),
         (NUMBERS, "taken with index", indexes.iter().copied().chain([255]).collect()),
@@ -80,7 +89,7 @@ fn required() -> Cases {
     let plain = [100, 130, 200, 201, 202, 203, 230, 231, 232, 233];
     let noticed = [110, 111, 210, 211, 212, 213, 220, 221];
     for (whose, profile, kinds, numbers) in [
-        (PACKET[0], 0, [&plain[..], &noticed].concat(), vec![4, 6, 7, 8, 9, 10, 11, 12, 13]),
+        (PACKET[0], 0, [&plain[..], &noticed].concat(), vec![4, 6, 7, 8, 26, 9, 10, 11, 12, 13]),
         (PACKET[1], 1, plain.to_vec(), vec![4]),
         (NUMBERS, 1, [&[130, 230, 231, 232, 233][..], &noticed].concat(), vec![4, 11, 12, 13]),
     ] {

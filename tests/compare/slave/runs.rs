@@ -3,7 +3,7 @@
 use super::Calls;
 use crate::bindings::answers::{Change, Step};
 use crate::comparison::{Compared, Comparison};
-use crate::inputs::calls::{Board, Call, Form, Lent, Outcome, Said};
+use crate::inputs::calls::{Board, Call, Form, Lent, Limit, Outcome, Said};
 use crate::inputs::notices;
 use crate::inputs::random::Random;
 use crate::inputs::streams::*;
@@ -16,6 +16,7 @@ pub const PACKET: [&str; 2] = ["packet in profile 0", "packet in profile 1"];
 pub const NUMBERS: &str = "numbers notice";
 pub const FOREIGN: &str = "packet with another clock's tick";
 pub const EMPTY: &str = "empty packet";
+pub const LIMITED: &str = "packet with a limit";
 pub const RUN: &str = "run";
 
 fn change(outcome: Outcome) -> Change {
@@ -34,16 +35,24 @@ impl Comparison<Calls> {
         Ok(started)
     }
 
-    /// A packet in place and by value.
+    /// A packet in place and by value, as the full board reads it.
     pub fn packet(&mut self, slave: Slave, packet: &[u8], tick: u32) -> Compared<Step> {
+        self.packet_within(slave, packet, tick, None)
+    }
+
+    /// The same, with a limit.
+    pub fn packet_within(&mut self, slave: Slave, packet: &[u8], tick: u32, limit: Limit) -> Compared<Step> {
         let lent = Lent::new(&mut self.random, packet);
-        let stepped = self.call(slave, Call::Packet { form: Form::InPlace, packet: lent, tick })?.step();
+        let stepped = self.call(slave, Call::Packet { form: Form::InPlace, packet: lent, tick, limit })?.step();
         self.listed("packet", "number", stepped.reply.number)?;
         self.saw("packet", "of length", packet.len() as i64);
         if packet.is_empty() {
             self.saw_empty(slave, tick, &stepped);
         } else {
             self.saw_step(PACKET[usize::from(slave.profile & 1)], slave, tick, &stepped)?;
+        }
+        if let (Some(limit), 0, 188) = (limit, stepped.reply.number, packet.len()) {
+            self.saw_limited(slave, packet, limit as i64, &stepped);
         }
         Ok(stepped)
     }
@@ -52,7 +61,8 @@ impl Comparison<Calls> {
     pub fn foreign(&mut self, slave: Slave, packet: &[u8], tick: u32) -> Compared {
         let lent = Lent::new(&mut self.random, packet);
         let clock = self.random.pick(&[1 - slave.profile.min(1), 1 - slave.profile.min(1), 2, 255]);
-        let number = self.call(slave, Call::Packet { form: Form::OfClock(clock), packet: lent, tick })?.number();
+        let limit = notices::limit(&mut self.random, packet);
+        let number = self.call(slave, Call::Packet { form: Form::OfClock(clock), packet: lent, tick, limit })?.number();
         self.listed(FOREIGN, "number", number)?;
         self.saw(FOREIGN, "of length", packet.len() as i64);
         if number == 3 {
@@ -132,6 +142,26 @@ impl Comparison<Calls> {
             if before.next == before.n - 1 {
                 self.saw(EMPTY, "before the mark with pending", before.pending);
             }
+        }
+    }
+
+    /// Counts what the packet of a reader with this limit reached.
+    fn saw_limited(&mut self, before: Slave, packet: &[u8], limit: i64, after: &Step) {
+        let a = i64::from(packet[20]);
+        match (after.reply.notice, after.reply.ignored) {
+            (1 | 2, _) => {
+                self.saw(LIMITED, "taken, a less the limit", a - limit);
+                self.saw(LIMITED, "taken, by a limit of", limit);
+            }
+            (3, 26) => {
+                self.saw(LIMITED, "26, a less the limit", a - limit);
+                self.saw(LIMITED, "26, by a limit of", limit);
+                self.saw(LIMITED, "26, of a hunting (1), a locked slave (2)", before.phase);
+                self.saw(LIMITED, "26, with a wrong check value", basics::register(&packet[..25 + a as usize]) != 0);
+            }
+            (3, 8) if a > 163 => self.saw(LIMITED, "8 by a above 163, by a limit of", limit),
+            (0, _) if a > limit => self.saw(LIMITED, "plain, or of profile 1, with byte 20 above the limit", before.profile),
+            _ => {}
         }
     }
 
@@ -295,7 +325,8 @@ impl Comparison<Calls> {
             let numbers = any_numbers(r, run);
             self.numbers(run.slave, &packet, tick, &numbers)?
         } else {
-            self.packet(run.slave, &packet, tick)?
+            let limit = notices::limit(&mut self.random, &packet);
+            self.packet_within(run.slave, &packet, tick, limit)?
         };
         run.slave = stepped.slave;
         if stepped.reply.number == 0 || self.random.one_in(2) {

@@ -88,6 +88,32 @@ impl Comparison<Calls> {
         Ok(())
     }
 
+    /// Addressing fields about the limits of the papers, of every kind of slave: whole, with a wrong check value, with a wrong section length; and packets
+    /// that carry none with byte 20 the same.
+    pub fn sweep_limits(&mut self) -> Compared {
+        for slave in kinds() {
+            for a in [0, 3, 7, 62, 63, 64, 65, 66, 161, 162, 163, 164, 255] {
+                let field = notices::field_of_length(&mut self.random, 7, a.min(163)).unwrap();
+                let mut whole = mip(&mut self.random, slave.n - 1 - slave.next, 1_000, 800_000, &field);
+                if a > 163 {
+                    (whole[5], whole[20]) = ((a + 19) as u8, a as u8);
+                }
+                for limit in notices::LIMITS {
+                    for (at, bit) in [(0, 0), (24 + a, 1), (5, 1), (1, 0x80), (1, 0x20), (2, 0x01)] {
+                        let mut packet = whole.clone();
+                        packet[at.min(187)] ^= bit;
+                        self.packet_within(slave, &packet, IN_TIME, limit)?;
+                        if at == 5 {
+                            notices::reseal(&mut packet);
+                            self.packet_within(slave, &packet, IN_TIME, limit)?;
+                        }
+                    }
+                }
+            }
+        }
+        Ok(())
+    }
+
     /// A slave of any parts: every call with it.
     fn any_call(&mut self, slave: Slave, packet: &[u8], numbers: &Numbers) -> Compared {
         self.packet(slave, packet, IN_TIME)?;
