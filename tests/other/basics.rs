@@ -111,8 +111,8 @@ pub fn read_with(register: impl Fn(&[u8]) -> u32, packet: &[u8], limit: usize) -
     refuse(8, usize::from(p[5]) != rule(19 + a, SectionLengthModulo256, (19 + a) % 256))?;
     // a section length of at most 182: the section lies in the packet
     let section = p.get(..25 + a).ok_or(rule(8, SectionLengthModulo256, 9))?;
+    refuse(26, over_limit(a, limit) && rule(true, LimitAfterCheck, register(section) == 0))?;
     let check = register(section);
-    refuse(26, over_limit(a, limit) && rule(true, LimitAfterCheck, check == 0))?;
     refuse(9, rule(check, CheckLosesLastByte, check >> 8) != 0)?;
     let field = &section[21..21 + a];
     let flags = u16::from_be_bytes([p[8], p[9]]);

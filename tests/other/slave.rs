@@ -286,11 +286,10 @@ impl Slave {
         if a > 163 || usize::from(p[5]) != 19 + a {
             return Err(8);
         }
-        let check = register(&p[..25 + a]);
-        if rule(over, LongTakenUnread, false) && rule(true, LimitAfterCheck, check == 0) {
+        if rule(over, LongTakenUnread, false) && rule(true, LimitAfterCheck, register(&p[..25 + a]) == 0) {
             return Err(26);
         }
-        if check != 0 {
+        if register(&p[..25 + a]) != 0 {
             return Err(9);
         }
         let before = Settings { od: self.od, frequency: self.frequency, power: self.power };

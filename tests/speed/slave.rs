@@ -48,6 +48,11 @@ fn bytes_in_place(slave: &mut Slave, packet: &[u8], tick: u32) -> Result<Reply, 
 }
 
 #[inline(never)]
+fn limited(slave: &mut Slave, packet: &[u8], tick: u32, limit: usize) -> Result<Reply, u8> {
+    slave.packet_with(register_by_nibbles, packet, tick, limit)
+}
+
+#[inline(never)]
 fn numbers_by_value(slave: Slave, packet: &[u8], tick: u32, numbers: &Numbers) -> Step {
     slave.numbers_by_value(packet, tick, numbers).into()
 }
@@ -168,6 +173,38 @@ impl Calls {
             row(&what, [0, k].map(|k| Some(by_value[k])), [0, k].map(|k| Some(in_place[k])));
         }
     }
+
+    /// A row for a gap-filler's call, in place with its limit, against the same tables. It gives this notice.
+    fn measure_within(&self, what: &str, limit: usize, notice: u8) {
+        let Calls { slaves, packets } = self;
+        for (&slave, packet) in slaves.iter().zip(packets) {
+            let (mut lent, mut moved) = (slave.into(), slave);
+            let reply = vikombare::packet_within(&mut lent, packet, slave.profile, tick(), limit);
+            let plain = limited(&mut moved, packet, tick(), limit);
+            assert!(Step::from((moved, plain)) == Step { slave: lent.into(), reply } && reply.notice == notice, "{slave:?} {reply:?}");
+        }
+        let c_slaves = of_c(slaves);
+        let (mut c_lent, mut lent) = (c_slaves.clone(), slaves.clone());
+        let (profile, limit) = (black_box(slaves[0].profile), black_box(limit));
+        let figures = best(
+            ROUNDS,
+            vec![
+                candidate("", move |k| {
+                    if notice != 0 {
+                        c_lent[k] = c_slaves[k];
+                    }
+                    vikombare::packet_within(&mut c_lent[k], &packets[k], profile, tick(), limit)
+                }),
+                candidate("", move |k| {
+                    if notice != 0 {
+                        lent[k] = slaves[k];
+                    }
+                    limited(&mut lent[k], &packets[k], tick(), limit)
+                }),
+            ],
+        );
+        row(what, [None; 2], [Some(figures[0]), Some(figures[1])]);
+    }
 }
 
 /// A stream with one notice in a cadence, from that notice on: nanoseconds a packet in the best thousand of its last million packets.
@@ -232,6 +269,11 @@ pub fn measure() {
     let fields: Vec<Vec<u8>> = (0..INPUTS).map(|_| full_field(r)).collect();
     for a in [0, 163] {
         Calls::new(locked, |k| mip(2015 - locked(k).next, &fields[k][..a])).measure(&format!("notice, a = {a}"), 1, 0);
+    }
+
+    Calls::new(locked, |_| notices::null()).measure_within("null packet, locked, with a limit", 64, 0);
+    for (a, notice) in [(0, 1), (163, 3)] {
+        Calls::new(locked, |k| mip(2015 - locked(k).next, &fields[k][..a])).measure_within(&format!("notice, a = {a}, with a limit of 64"), 64, notice);
     }
 
     let slaves: Vec<Slave> = (0..INPUTS).map(|k| of_a110(locked(k))).collect();

@@ -68,6 +68,7 @@ fn index_allowed(index: u8) -> bool
 
 // 11, 12 and 13, of a notice that is otherwise right.
 #[tactic(auto, unfolding(crate::specs::Judge::taken_refusal))]
+#[inline(always)]
 fn check_taken(b: Board, t: Taken) -> Result<(), Refusal>
     ensures { reply_of result ≡ reply (taken_refusal b t) tt }
 {
@@ -85,6 +86,7 @@ fn check_taken(b: Board, t: Taken) -> Result<(), Refusal>
 
 // A notice that is otherwise right: 11 to 13 ignore it, else it is taken.
 #[tactic(auto, unfolding(crate::specs::Judge::limited))]
+#[inline(always)]
 fn limited(b: Board, t: Taken) -> Result<Taken, Refusal>
     ensures { taken_of result ≡ limited b t }
 {
@@ -93,6 +95,7 @@ fn limited(b: Board, t: Taken) -> Result<Taken, Refusal>
 }
 
 // What a MIP gives.
+#[inline(always)]
 fn mip_taken(p: &[u8], settings: Settings) -> Taken
     ensures { result ≡ mip_taken p.now settings }
 {
@@ -107,6 +110,7 @@ fn mip_taken(p: &[u8], settings: Settings) -> Taken
 
 // A MIP: 6 to 8, 26 and 9, then one walk of its addressing field for its form and what it sets, then 11 to 13.
 #[tactic(auto, unfolding(crate::specs::Judge::judge_mip))]
+#[inline(always)]
 fn judge_mip(b: Board, t: Settings, p: &[u8], limit: usize) -> Result<Taken, Refusal>
     ensures { taken_of result ≡ judge_mip b t p.now limit }
 {
@@ -118,7 +122,13 @@ fn judge_mip(b: Board, t: Settings, p: &[u8], limit: usize) -> Result<Taken, Ref
 // A packet that arrived right: none where it carries no notice, and an error where a number of C ignores its notice, which is read with this limit. 4 comes
 // before the PID.
 #[tactic(auto, unfolding(crate::specs::Judge::judge_arrived))]
-pub fn judge_arrived(b: Board, t: Settings, p: &[u8], limit: usize) -> Result<Option<Taken>, Refusal>
+#[inline(always)]
+pub fn judge_arrived(
+    b: Board,
+    t: Settings,
+    p: &[u8],
+    limit: usize,
+) -> Result<Option<Taken>, Refusal>
     ensures { judgement_of result ≡ judge_arrived b t p.now limit }
 {
     if notice::error_indicator(p) != 0 {

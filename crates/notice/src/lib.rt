@@ -186,6 +186,7 @@ pub fn check_section(p: &[u8], limit: usize) -> Result<(), Refusal>
 
 // 10 and 11: the addressing field's form and the times.
 #[tactic(auto, unfolding(crate::specs::Reader::body_refusal))]
+#[inline(always)]
 fn check_body(p: &[u8]) -> Result<(), Refusal>
     ensures { reply_of result ≡ reply (body_refusal p.now) tt }
 {
@@ -199,6 +200,7 @@ fn check_body(p: &[u8]) -> Result<(), Refusal>
 }
 
 // The fields of a packet.
+#[inline(always)]
 fn notice_in(p: &[u8]) -> Notice
     ensures { result ≡ notice_in p.now }
 {
@@ -215,6 +217,7 @@ fn notice_in(p: &[u8]) -> Notice
 
 // Reads a notice from any bytes, with an addressing field of at most the limit.
 #[tactic(auto, unfolding(crate::specs::Reader::read_of, crate::specs::Reader::read_refusal))]
+#[inline(always)]
 pub fn read_notice(p: &[u8], limit: usize) -> Result<Notice, Refusal>
     ensures { reply_of result ≡ read_of p.now limit }
 {

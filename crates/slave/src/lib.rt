@@ -5,7 +5,8 @@
 ghost use Rattle.std.specs.Prelude.{◌≡◌, Ok};
 ghost use Rattle.wire.specs.Reply.{Reply, refused, given, refusal_number, reply_of};
 ghost use Rattle.state.specs.Slave.{cold};
-ghost use Rattle.slave.specs.Answer.{Report, Leaves, left, report_of, answer_of, stepped_of};
+ghost use Rattle.slave.specs.Answer.{absent, Report, Leaves, left, report_of, answer_of, stepped_of};
+ghost use Rattle.slave.specs.Step.{unheard_report};
 ghost use Rattle.slave.specs.Calls.{step_of, start_of, packet_of, numbers_of, gap_of};
 ghost use Rattle.judging.specs.Judge.{judge_arrived, judge_given};
 ghost use Rattle.slave.specs.Ways.{moved_of, refused_by, lost_by, way_of};
@@ -137,6 +138,7 @@ fn go_cold(s: &mut Slave) -> Result<(), Refusal>
 // A packet that arrived right, on a sound slave: what was judged decides which step is taken, and each is one method. A function of one caller, so that
 // the compiler keeps the steps out of memory.
 #[tactic(auto, using(judging::proofs::Judging::arrived_limits), unfolding(crate::specs::Calls::step_of, crate::specs::Step::counted, crate::specs::Step::unheard))]
+#[inline(always)]
 fn arrived(r: Ready<'_>, p: &[u8], limit: usize) -> Way
     ensures { way_of r.entry.slave.now (Ok result) ≡ step_of r.entry.slave.now (judge_arrived r.entry.slave.now.board r.entry.slave.now.settings p.now limit) r.entry.tick }
 {
@@ -154,6 +156,7 @@ fn arrived(r: Ready<'_>, p: &[u8], limit: usize) -> Way
 // What a packet with its arrival tick does, its notice read with this limit. An empty one was lost, whatever its tick. Any other is judged in the papers'
 // order, each thing once: 15, then 1 to 3, then 4, 6 to 8, 26 and 9 to 13.
 #[tactic(auto, using(crate::proofs::Calling::packet_lost), unfolding(crate::specs::Calls::packet_of))]
+#[inline(always)]
 pub fn way_of(s: &Slave, p: &[u8], tick: u32, limit: usize) -> Result<Way, Refusal>
     ensures { way_of s.now result ≡ packet_of s.now p.now tick limit }
 {
@@ -164,7 +167,14 @@ pub fn way_of(s: &Slave, p: &[u8], tick: u32, limit: usize) -> Result<Way, Refus
     Ok(arrived(r, p, limit))
 }
 
-// All that a packet may change, stored in the slave, and the reply.
+// The report with nothing in it: of a hunting slave on a packet that carries no notice, and of an empty packet.
+pub fn blank_report() -> Counted
+    ensures { report_of result ≡ unheard_report absent }
+{
+    steps::unheard(NoticePart::Absent)
+}
+
+// All that a numbers notice may change, stored in the slave, and the reply.
 #[inline(always)]
 fn apply_moved<A: Answer>(s: &mut Slave, m: Moved) -> A
     ensures { Leaves A.says s.new result (moved_of s.old m) }
@@ -195,31 +205,47 @@ pub fn lost<A: Answer>(s: &mut Slave) -> A
     ensures { Leaves A.says s.new result (lost_by s.old) }
 {
     match gap(s, 1) {
-        Ok(()) => A::counted(steps::unheard(NoticePart::Absent)),
+        Ok(()) => A::counted(blank_report()),
         Err(r) => A::refused(r),
     }
 }
 
-// What a packet does to a slave, stored in it, and its reply. Each arm makes its own reply: one made after them of what they give would go through memory.
-#[inline(always)]
-fn apply<A: Answer>(s: &mut Slave, way: Result<Way, Refusal>) -> A
-    ensures { Leaves A.says s.new result (way_of s.old way) }
-{
-    match way {
-        Ok(Way::Short(q)) => {
-            s.count.next = q.next;
-            return A::counted(q.report);
+// What a packet does to a lent slave, stored in it, and its reply in the caller's form. A macro, so that each arm makes and returns its own reply in the call
+// that it is written in: a reply that comes from a call, or is made after the arms of what they give, goes through memory.
+#[macro_export]
+macro_rules! answer_by {
+    ($way:expr, $slave:ident, $answer:ty) => {
+        match $way {
+            Ok($crate::Way::Short(q)) => {
+                $slave.count.next = q.next;
+                return <$answer as $crate::Answer>::counted(q.report);
+            }
+            Ok($crate::Way::Hunts) => {
+                return <$answer as $crate::Answer>::counted($crate::blank_report());
+            }
+            Ok($crate::Way::Lost) => {
+                return $crate::lost($slave);
+            }
+            Ok($crate::Way::Marked(m)) => {
+                $slave.count = m.count;
+                $slave.waiting = state::nothing_waiting();
+                return <$answer as $crate::Answer>::counted(m.report);
+            }
+            Ok($crate::Way::Moved(m)) => {
+                $slave.settings = m.settings;
+                $slave.count = m.count;
+                $slave.waiting = m.waiting;
+                return <$answer as $crate::Answer>::counted(m.report);
+            }
+            Err(wire::Refusal::StartSettings) => {
+                *$slave = state::cold_slave();
+                return <$answer as $crate::Answer>::refused(wire::Refusal::StartSettings);
+            }
+            Err(r) => {
+                return <$answer as $crate::Answer>::refused(r);
+            }
         }
-        Ok(Way::Hunts) => return A::counted(steps::unheard(NoticePart::Absent)),
-        Ok(Way::Lost) => return lost(s),
-        Ok(Way::Marked(m)) => {
-            s.count = m.count;
-            s.waiting = state::nothing_waiting();
-            return A::counted(m.report);
-        }
-        Ok(Way::Moved(m)) => return apply_moved(s, m),
-        Err(r) => return refuse(s, r),
-    }
+    };
 }
 
 // A packet with its arrival tick, and the limit with which its notice is read.
@@ -227,8 +253,7 @@ fn apply<A: Answer>(s: &mut Slave, way: Result<Way, Refusal>) -> A
 pub fn packet<A: Answer>(s: &mut Slave, p: &[u8], tick: u32, limit: usize) -> A
     ensures { Leaves A.says s.new result (packet_of s.old p.now tick limit) }
 {
-    let way = way_of(s, p, tick, limit);
-    apply(s, way)
+    answer_by!(way_of(s, p, tick, limit), s, A)
 }
 
 // The same of a slave that is handed in and back.

@@ -182,6 +182,7 @@ impl Heard<'_> {
 impl Locked<'_> {
     // The mark on a packet whose label the slave counted.
     #[tactic(auto, unfolding(crate::specs::Step::mark_at))]
+    #[inline(always)]
     fn mark(self) -> MarkPart
         ensures { mark_of result ≡ mark_at self.entry.ready.slave.now self.entry.ready.tick }
     {
@@ -197,6 +198,7 @@ impl Locked<'_> {
 
     // A packet without a notice, between the marks: the label moves on.
     #[tactic(auto, using(crate::proofs::Stepping::next_below), unfolding(crate::specs::Step::mark_at, crate::specs::Step::passed, crate::specs::Step::counted))]
+    #[inline(always)]
     pub(crate) fn pass_on(self) -> Short
         requires { self.ready.slave.now.count.next ≡ 0 → ⊥ }
         ensures { short_of self.entry.ready.slave.now result ≡ counted self.entry.ready.slave.now 0 self.entry.ready.tick }
@@ -215,6 +217,7 @@ impl Locked<'_> {
 
     // A mark without a notice of its own: a waiting notice is released, and gone.
     #[tactic(auto, using(crate::proofs::Stepping::next_below), unfolding(crate::specs::Step::passed, crate::specs::Step::counted))]
+    #[inline(always)]
     pub(crate) fn pass_mark(self) -> Marked
         requires { self.ready.slave.now.count.next ≡ 0 }
         ensures { marked_of self.entry.ready.slave.now result ≡ counted self.entry.ready.slave.now 0 self.entry.ready.tick }

@@ -17,10 +17,9 @@ ghost use Rattle.vikombare.specs.Flat.{tick_on, changed, flat_change, dvb_board,
 use judging::Numbers;
 use notice::Notice;
 use replies::PacketReply;
-use slave::Way;
 use state::{Board, Slave};
 use times::{Periods, Steps, Unit};
-use wire::{LONGEST_ADDRESSING, Refusal};
+use wire::LONGEST_ADDRESSING;
 
 // An arrival tick with its clock: profile 0 counts steps of 100 ns, profile 1 bit periods. The profile is a number, since C hands in any byte.
 #[repr(C)]
@@ -79,9 +78,17 @@ fn tick_on(profile: u8, tick: Tick) -> u32
     }
 }
 
-// A packet with its arrival tick, its notice read with this limit; of the lent slave, just what changes is stored. A tick of the other clock is none of the
-// slave's (3); of an empty packet none is read. It matches the way itself, and each arm returns: a plain packet takes 17 ns so, and 24 ns by
-// `slave::packet`, whose answers the compiler joins.
+// A packet with its arrival tick, as the full board reads it; of the lent slave, just what changes is stored. A tick of the other clock is none of the
+// slave's (3); of an empty packet none is read.
+#[unsafe(no_mangle)]
+pub extern "C" fn vikombare_packet(s: &mut Slave, p: &[u8], tick: Tick) -> PacketReply
+    ensures { flat_left s.new result ≡ flat_step (packet_of s.old p.now (tick_on s.old.board.profile tick) longest_addressing) }
+{
+    let t = tick_on(s.board.profile, tick);
+    slave::answer_by!(slave::way_of(s, p, t, LONGEST_ADDRESSING), s, PacketReply)
+}
+
+// The same, its notice read with this limit. Not the one by the other: a reply that a call hands on is copied, which took a plain packet 19 ns for 14.
 #[unsafe(no_mangle)]
 pub extern "C" fn vikombare_packet_within(
     s: &mut Slave,
@@ -92,44 +99,7 @@ pub extern "C" fn vikombare_packet_within(
     ensures { flat_left s.new result ≡ flat_step (packet_of s.old p.now (tick_on s.old.board.profile tick) limit) }
 {
     let t = tick_on(s.board.profile, tick);
-    match slave::way_of(s, p, t, limit) {
-        Ok(Way::Short(q)) => {
-            s.count.next = q.next;
-            return q.report.into();
-        }
-        Ok(Way::Hunts) => {
-            return replies::number_alone(0);
-        }
-        Ok(Way::Lost) => {
-            return slave::lost(s);
-        }
-        Ok(Way::Marked(m)) => {
-            s.count = m.count;
-            s.waiting = state::nothing_waiting();
-            return m.report.into();
-        }
-        Ok(Way::Moved(m)) => {
-            s.settings = m.settings;
-            s.count = m.count;
-            s.waiting = m.waiting;
-            return m.report.into();
-        }
-        Err(Refusal::StartSettings) => {
-            *s = state::cold_slave();
-            return replies::number_alone(Refusal::StartSettings.number());
-        }
-        Err(r) => {
-            return replies::number_alone(r.number());
-        }
-    }
-}
-
-// A packet of the full board, whose limit is 163.
-#[unsafe(no_mangle)]
-pub extern "C" fn vikombare_packet(s: &mut Slave, p: &[u8], tick: Tick) -> PacketReply
-    ensures { flat_left s.new result ≡ flat_step (packet_of s.old p.now (tick_on s.old.board.profile tick) longest_addressing) }
-{
-    vikombare_packet_within(s, p, tick, LONGEST_ADDRESSING)
+    slave::answer_by!(slave::way_of(s, p, t, limit), s, PacketReply)
 }
 
 // A packet that comes with a notice in numbers, profile 1.
@@ -191,6 +161,7 @@ pub extern "C" fn vikombare_a110_resume(
 
 // Reads a notice of profile 0 with this limit. No From: the length is the packet's and not the notice's.
 #[unsafe(no_mangle)]
+#[inline(always)]
 pub extern "C" fn vikombare_read_within(p: &[u8], limit: usize) -> NoticeRead
     ensures { result ≡ flat_notice (read_of p.now limit) (length (addressing_field p.now)) }
 {
