@@ -47,9 +47,9 @@ extern "C" {
 
 /* The version of this interface. MAJOR rises where a program has to be changed or compiled anew, MINOR where it has not: something is added, or a call
  * gives another value. 2.1: a time that was a whole second is 0. 3.0: a late mark says how late it is, and its kind in which unit. 3.1: to
- * vikombare_packet, a packet of no bytes is one that was lost; before, it was refused with 1. */
+ * vikombare_packet, a packet of no bytes is one that was lost; before, it was refused with 1. 3.2: vikombare_packet_within, vikombare_read_within, and 26. */
 #define VIKOMBARE_VERSION_MAJOR 3
-#define VIKOMBARE_VERSION_MINOR 1
+#define VIKOMBARE_VERSION_MINOR 2
 
 /* An answer that must not be thrown away: it says what to do. The compiler warns where one is. */
 #if (defined(__cplusplus) && __cplusplus >= 201703L) || (defined(__STDC_VERSION__) && __STDC_VERSION__ >= 202311L)
@@ -60,7 +60,7 @@ extern "C" {
 #define VIKOMBARE_KEEP
 #endif
 
-/* The numbers that a call refuses with: the first that applies, in the order given at each call. The numbers are document 01's. */
+/* The numbers that a call refuses with: the first that applies, in the order given at each call. The numbers are document 01's, and 26 document 02's. */
 enum {
     VIKOMBARE_ACCEPTED = 0,
     VIKOMBARE_REFUSED_LENGTH = 1,             /* the packet does not have 188 bytes; for vikombare_packet, nor 0, which is a packet that was lost */
@@ -84,7 +84,9 @@ enum {
     VIKOMBARE_REFUSED_BOARD = 17,             /* a sound block, but of another site, profile, n or TAD */
     VIKOMBARE_REFUSED_ROOM = 18,              /* the output has under 188 bytes (write) or 38 (save) */
     VIKOMBARE_REFUSED_FIELD = 19,             /* continuity above 15 or reserved above 32767 */
-    VIKOMBARE_REFUSED_PROFILE = 20            /* a numbers notice for a slave of profile 0 */
+    VIKOMBARE_REFUSED_PROFILE = 20,           /* a numbers notice for a slave of profile 0 */
+    VIKOMBARE_REFUSED_LIMIT = 26              /* the addressing field is above the limit that the call gives (vikombare_packet_within and
+                                                 vikombare_read_within only); after 8 and before 9, so whatever the check value is */
 };
 
 /* The profiles, and what their clocks count in a second. */
@@ -96,6 +98,7 @@ enum {
 #define VIKOMBARE_PACKET_BYTES 188
 #define VIKOMBARE_BLOCK_BYTES 38 /* of a saved block */
 #define VIKOMBARE_INDEX_UNKNOWN 255
+#define VIKOMBARE_LONGEST_ADDRESSING 163 /* bytes of an addressing field: the full board's limit */
 
 /* A time after the one-second pulse, a delay, or how late a mark was. The two units are two types, so that one is not taken for the other. */
 typedef struct {
@@ -214,7 +217,7 @@ enum {
     VIKOMBARE_NOTICE_TAKEN = 1,
     VIKOMBARE_NOTICE_SLIP = 2,   /* taken, and it disagrees with the slave's own count: the count is set by it, the notice that waited is dropped without
                                     a release, and the index becomes unknown unless this notice gives one */
-    VIKOMBARE_NOTICE_IGNORED = 3 /* `ignored` says why: 4, 6 to 13 */
+    VIKOMBARE_NOTICE_IGNORED = 3 /* `ignored` says why: 4, 6 to 13, 26 */
 };
 
 /* The reply to a packet or a numbers notice. What is not there is 0 or false; a refused call has its number alone, and an empty packet number 0 alone. */
@@ -299,6 +302,12 @@ VIKOMBARE_KEEP uint8_t vikombare_a110_start(vikombare_slave *slave, uint16_t n, 
  * tell a lost packet by one of the two calls, not by both. */
 VIKOMBARE_KEEP vikombare_reply vikombare_packet(vikombare_slave *slave, const uint8_t *packet, size_t length, vikombare_tick arrival);
 
+/* The same for a board that handles fewer bytes of addressing field: it reads notices of at most `limit` bytes, and exactly the limit is read. 163
+ * (VIKOMBARE_LONGEST_ADDRESSING) and every limit above it make the call vikombare_packet; 0 reads notices without an addressing field alone. No slave keeps
+ * the limit: give it with each packet. A notice above the limit is ignored with 26, after 8 and before 9, unless 4, 6, 7 or 8 ignores it; it leaves just the
+ * slave that a plain packet leaves, and one within the limit is treated as by vikombare_packet. Profile 1 does not use the limit. */
+VIKOMBARE_KEEP vikombare_reply vikombare_packet_within(vikombare_slave *slave, const uint8_t *packet, size_t length, vikombare_tick arrival, size_t limit);
+
 /* Takes a packet that comes with a notice in numbers, profile 1, in place of vikombare_packet for this packet. Order: 15 (leaves the cold slave), 1 (for a
  * length of 0 too), 2, 3, 20 (each leaves the slave as it was); then 4, 11, 12, 13 ignore the notice, and the packet counts. A slave of profile 0 takes no
  * numbers notice: it answers 3 where the arrival's count is VIKOMBARE_DVB_SECOND or more, else 20. */
@@ -325,9 +334,12 @@ VIKOMBARE_KEEP uint8_t vikombare_a110_resume(vikombare_slave *slave, const uint8
 /* Reads a notice of profile 0. Order: 1, 2, 4 to 11. */
 VIKOMBARE_KEEP vikombare_reading vikombare_read(const uint8_t *packet, size_t length);
 
+/* The same with a limit, as of vikombare_packet_within. Order: 1, 2, 4 to 8, 26, 9 to 11. */
+VIKOMBARE_KEEP vikombare_reading vikombare_read_within(const uint8_t *packet, size_t length, size_t limit);
+
 /* Writes a notice of profile 0 in the first 188 bytes of out, with its check value and stuffing; bytes after them are kept. The addressing field must not lie
  * in out: to write a packet anew in its place, copy its field first. Order: 18, 19, 8 (an addressing field of more than 163 bytes), 10, 11; each keeps
- * every byte of out. The writer knows no n, and writes every pointer as given. */
+ * every byte of out. The writer knows no n and no reader's limit, and writes every pointer as given. */
 VIKOMBARE_KEEP uint8_t vikombare_write(uint8_t *out, size_t out_length, vikombare_notice notice, const uint8_t *addressing, size_t addressing_length);
 
 #ifdef __cplusplus

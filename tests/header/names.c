@@ -1,5 +1,5 @@
 /* Holds each name of include/vikombare.h to an input of its kind: a refusal by the example that document 01's table has for it, and the phases, the kinds
- * of mark and what becomes of a notice; and how late a mark was, in each profile. The same file is C11 and C++11. */
+ * of mark and what becomes of a notice; how late a mark was, in each profile; and a reader's limit. The same file is C11 and C++11. */
 #include <stdio.h>
 #include <string.h>
 
@@ -144,6 +144,30 @@ static void kinds(void)
     hold("the lateness two periods after the modulation time", 2, reply.mark.a110_late.periods);
 }
 
+/* A notice of 7 bytes of addressing field, on a board whose limit is so many, and the bounds of a limit. */
+static void limits(void)
+{
+    static const uint8_t field[VIKOMBARE_LONGEST_ADDRESSING + 1] = {0, SITE, 4, 0, 4, 0xFF, 0xCD};
+    vikombare_steps arrival = {5};
+    vikombare_slave hunting, slave;
+    vikombare_reply reply;
+
+    HOLD(VIKOMBARE_ACCEPTED, vikombare_dvb_start(&hunting, N, SITE, NONE));
+    HOLD(VIKOMBARE_ACCEPTED, written(0, 9500000, 700000, field, 7));
+    HOLD(VIKOMBARE_ACCEPTED, vikombare_read_within(mip, PACKET, 7).number);
+    HOLD(VIKOMBARE_REFUSED_LIMIT, vikombare_read_within(mip, PACKET, 6).number);
+    slave = hunting;
+    reply = vikombare_packet_within(&slave, mip, PACKET, vikombare_dvb_tick(arrival), 6);
+    HOLD(VIKOMBARE_NOTICE_IGNORED, reply.notice);
+    HOLD(VIKOMBARE_REFUSED_LIMIT, reply.ignored);
+    HOLD(VIKOMBARE_PHASE_HUNTING, slave.count.phase);
+    HOLD(VIKOMBARE_NOTICE_TAKEN, vikombare_packet_within(&slave, mip, PACKET, vikombare_dvb_tick(arrival), 7).notice);
+    HOLD(VIKOMBARE_ACCEPTED, written(0, 9500000, 700000, field, VIKOMBARE_LONGEST_ADDRESSING));
+    HOLD(VIKOMBARE_ACCEPTED, vikombare_read_within(mip, PACKET, VIKOMBARE_LONGEST_ADDRESSING).number);
+    HOLD(VIKOMBARE_REFUSED_LIMIT, vikombare_read_within(mip, PACKET, VIKOMBARE_LONGEST_ADDRESSING - 1).number);
+    HOLD(VIKOMBARE_REFUSED_SECTION_LENGTH, written(0, 0, 0, field, VIKOMBARE_LONGEST_ADDRESSING + 1));
+}
+
 int main(void)
 {
     memset(null, 0xFF, PACKET);
@@ -152,6 +176,7 @@ int main(void)
     null[3] = 0x10;
     refusals();
     kinds();
+    limits();
     if (wrong == 0)
         printf("%d answers are as named\n", tried);
     return wrong != 0;
