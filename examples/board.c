@@ -138,6 +138,12 @@ static void dvb_board(void)
     number = vikombare_gap(&slave, 2012);
     print_slave("gap of 2012", number, &slave);
     feed_dvb(&slave, null, 899860);
+
+    /* Notices with 7 bytes of addressing field, for a board that handles 6 of them and for one that handles 7. */
+    notice_packet(packet, 2014, 300000, 700000, offset, sizeof offset);
+    print_reply(vikombare_packet_within(&slave, packet, PACKET, vikombare_dvb_tick(steps(950000)), 6));
+    notice_packet(packet, 2013, 300000, 700000, offset, sizeof offset);
+    print_reply(vikombare_packet_within(&slave, packet, PACKET, vikombare_dvb_tick(steps(990000)), 7));
 }
 
 static void a110_board(void)

@@ -63,9 +63,10 @@ extern "C" {
 /* The numbers that a call refuses with: the first that applies, in the order given at each call. The numbers are document 01's, and 26 document 02's. */
 enum {
     VIKOMBARE_ACCEPTED = 0,
-    VIKOMBARE_REFUSED_LENGTH = 1,             /* the packet does not have 188 bytes; for vikombare_packet, nor 0, which is a packet that was lost */
+    VIKOMBARE_REFUSED_LENGTH = 1,             /* the packet does not have 188 bytes; for the packet calls (vikombare_packet and
+                                                 vikombare_packet_within), nor 0, which is a packet that was lost */
     VIKOMBARE_REFUSED_SYNC_BYTE = 2,          /* byte 0 of the packet is not 0x47 */
-    VIKOMBARE_REFUSED_TICK = 3,               /* the arrival's count is a whole second of the slave's clock or more; for vikombare_packet, also a tick that
+    VIKOMBARE_REFUSED_TICK = 3,               /* the arrival's count is a whole second of the slave's clock or more; for the packet calls, also a tick that
                                                  says the other clock */
     VIKOMBARE_REFUSED_ERROR_INDICATOR = 4,    /* the transport error indicator is set */
     VIKOMBARE_REFUSED_PID = 5,                /* the PID is not 0x0015 (reading only) */
@@ -303,8 +304,8 @@ VIKOMBARE_KEEP uint8_t vikombare_a110_start(vikombare_slave *slave, uint16_t n, 
 VIKOMBARE_KEEP vikombare_reply vikombare_packet(vikombare_slave *slave, const uint8_t *packet, size_t length, vikombare_tick arrival);
 
 /* The same for a board that handles fewer bytes of addressing field: it reads notices of at most `limit` bytes, and exactly the limit is read. 163
- * (VIKOMBARE_LONGEST_ADDRESSING) and every limit above it make the call vikombare_packet; 0 reads notices without an addressing field alone. No slave keeps
- * the limit: give it with each packet. A notice above the limit is ignored with 26, after 8 and before 9, unless 4, 6, 7 or 8 ignores it; it leaves just the
+ * (VIKOMBARE_LONGEST_ADDRESSING) and every limit above it make it the same as vikombare_packet; 0 reads only notices without an addressing field. No slave
+ * keeps the limit: give it with each packet. A notice above the limit is ignored with 26, after 8 and before 9, unless 4, 6, 7 or 8 ignores it; it leaves just the
  * slave that a plain packet leaves, and one within the limit is treated as by vikombare_packet. Profile 1 does not use the limit. */
 VIKOMBARE_KEEP vikombare_reply vikombare_packet_within(vikombare_slave *slave, const uint8_t *packet, size_t length, vikombare_tick arrival, size_t limit);
 
@@ -315,7 +316,7 @@ VIKOMBARE_KEEP vikombare_reply vikombare_numbers(vikombare_slave *slave, const u
                                                  vikombare_numbers_notice notice);
 
 /* Tells a locked slave that k packets were lost: it counts on, passes the marks among them, and drops a notice whose mark is among them. A hunting slave
- * is unchanged. Order: 15 (leaves the cold slave). What a link card delivers as empty packets goes to vikombare_packet, and is not told here again. */
+ * is unchanged. Order: 15 (leaves the cold slave). What a link card delivers as empty packets goes to the packet call, and is not told here again. */
 VIKOMBARE_KEEP uint8_t vikombare_gap(vikombare_slave *slave, uint16_t k);
 
 /* Saves the slave, which stays as it is, in the first 38 bytes of out; bytes after them are kept. Order: 15, 18; each keeps every byte of out. */
@@ -334,7 +335,7 @@ VIKOMBARE_KEEP uint8_t vikombare_a110_resume(vikombare_slave *slave, const uint8
 /* Reads a notice of profile 0. Order: 1, 2, 4 to 11. */
 VIKOMBARE_KEEP vikombare_reading vikombare_read(const uint8_t *packet, size_t length);
 
-/* The same with a limit, as of vikombare_packet_within. Order: 1, 2, 4 to 8, 26, 9 to 11. */
+/* The same with a limit, as for vikombare_packet_within. Order: 1, 2, 4 to 8, 26, 9 to 11. */
 VIKOMBARE_KEEP vikombare_reading vikombare_read_within(const uint8_t *packet, size_t length, size_t limit);
 
 /* Writes a notice of profile 0 in the first 188 bytes of out, with its check value and stuffing; bytes after them are kept. The addressing field must not lie

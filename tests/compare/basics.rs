@@ -66,12 +66,12 @@ impl Comparison<Basics> {
             self.write_again(packet, &reading)?;
         }
         if let (Some(limit), 188) = (limit, packet.len()) {
-            self.saw_limited(packet[20].into(), limit as i64, reading.number);
+            self.saw_limited(packet[20].into(), limit.min(1_000) as i64, reading.number);
         }
         Ok(reading)
     }
 
-    /// Counts what a reader with this limit gave.
+    /// Counts what a reader with this limit gave; 1,000 stands for every limit of 1,000 or more.
     fn saw_limited(&mut self, a: i64, limit: i64, number: u8) {
         match number {
             0 => {
@@ -477,10 +477,10 @@ fn required() -> Cases {
     let mut list = vec![
         ("read", "number", vec![0, 1, 2, 4, 5, 6, 7, 8, 26, 9, 10, 11]),
         ("read", "accepted, a less the limit", vec![-1, 0]),
-        ("read", "accepted, by a limit of", vec![0, 63, 64, 65, 162, 163, 164, 255, 256]),
+        ("read", "accepted, by a limit of", vec![0, 63, 64, 65, 162, 163, 164, 255, 256, 1_000]),
         ("read", "26, a less the limit", vec![1, 2]),
         ("read", "26, by a limit of", (0..=162).collect()),
-        ("read", "8 by a above 163, by a limit of", vec![0, 64, 163, 255]),
+        ("read", "8 by a above 163, by a limit of", vec![0, 64, 163, 255, 1_000]),
         ("read", "of length", lengths.clone()),
         ("read", "accepted with a", field_lengths.clone()),
         ("read", "register left at other than zero", vec![9]),

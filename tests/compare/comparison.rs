@@ -115,7 +115,7 @@ impl<S: Subject> Comparison<S> {
         let value = value.into();
         match self.seen.get_mut(&(whose, what, value)) {
             Some(count) => *count += 1,
-            None => return Err(self.differs(format!("{whose}, {what} {value} is not one of document 01's"))),
+            None => return Err(self.differs(format!("{whose}, {what} {value} is not one of the papers'"))),
         }
         Ok(())
     }

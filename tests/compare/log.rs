@@ -103,7 +103,8 @@ fn capture(r: &mut Random) -> Vec<u8> {
                 let (field, md) = match r.below(24) {
                     0 => (vec![0, 0, 4, 0, 4, 0xFF, 0xCD], 50),
                     1..=12 => (Vec::new(), md),
-                    _ => (notices::field(r, site, 60), md),
+                    13 => (notices::field_of_length(r, site, 163).unwrap(), md),
+                    _ => (notices::field(r, site, 163), md),
                 };
                 let mut packet = notices::packet_of(&Notice { pointer, sts, md, ..notices::notice(r) }, &field);
                 if r.one_in(12) {

@@ -144,7 +144,7 @@ static void kinds(void)
     hold("the lateness two periods after the modulation time", 2, reply.mark.a110_late.periods);
 }
 
-/* A notice of 7 bytes of addressing field, on a board whose limit is so many, and the bounds of a limit. */
+/* A notice of 7 bytes of addressing field, on boards whose limit is 7 and 6; and the longest notice, with limits of 0, 162, 163 and above. */
 static void limits(void)
 {
     static const uint8_t field[VIKOMBARE_LONGEST_ADDRESSING + 1] = {0, SITE, 4, 0, 4, 0xFF, 0xCD};
@@ -165,6 +165,12 @@ static void limits(void)
     HOLD(VIKOMBARE_ACCEPTED, written(0, 9500000, 700000, field, VIKOMBARE_LONGEST_ADDRESSING));
     HOLD(VIKOMBARE_ACCEPTED, vikombare_read_within(mip, PACKET, VIKOMBARE_LONGEST_ADDRESSING).number);
     HOLD(VIKOMBARE_REFUSED_LIMIT, vikombare_read_within(mip, PACKET, VIKOMBARE_LONGEST_ADDRESSING - 1).number);
+    HOLD(VIKOMBARE_REFUSED_LIMIT, vikombare_read_within(mip, PACKET, 0).number);
+    HOLD(VIKOMBARE_ACCEPTED, vikombare_read_within(mip, PACKET, 256).number);
+    HOLD(VIKOMBARE_ACCEPTED, vikombare_read_within(mip, PACKET, SIZE_MAX).number);
+    slave = hunting;
+    HOLD(VIKOMBARE_REFUSED_LIMIT, vikombare_packet_within(&slave, mip, PACKET, vikombare_dvb_tick(arrival), 0).ignored);
+    HOLD(VIKOMBARE_NOTICE_TAKEN, vikombare_packet_within(&slave, mip, PACKET, vikombare_dvb_tick(arrival), SIZE_MAX).notice);
     HOLD(VIKOMBARE_REFUSED_SECTION_LENGTH, written(0, 0, 0, field, VIKOMBARE_LONGEST_ADDRESSING + 1));
 }
 

@@ -84,7 +84,7 @@ faults! {
         LimitUnjudged: "a reader's limit is not judged",
         LimitExcluded: "an addressing field of exactly the limit is 26",
         LimitZeroed: "a limit above 163 is taken as 0",
-        LimitLess164: "a limit above 163 is taken as what it has above 163, from 0 on",
+        LimitLess164: "a limit above 163 is taken as that limit less 164",
         LimitBeforeLengths: "26 is judged before 8",
         LimitAfterCheck: "26 is judged after 9",
     ;
@@ -120,6 +120,9 @@ faults! {
         LimitRefusesCall: "26 refuses the whole call",
         LimitOfAnyPid: "26 is judged for every packet",
         LongTakenUnread: "a notice above the limit is taken, its addressing field unread",
+        LongSetsCount: "a notice above the limit sets the count",
+        LongSettingsEnter: "a notice above the limit leaves its settings",
+        LongDropsPending: "a notice above the limit drops the pending notice",
         ErrorOfNoticesAlone: "4 is judged for PID 0x15 alone",
         A110ReadsMip: "in profile 1 the packet call takes a MIP",
         ErrorBeforeProfile: "in a numbers notice 4 is judged before 20",
@@ -211,6 +214,7 @@ faults! {
         ReferenceShown: "the last column has the reference emission time",
         Hexadecimal: "numbers are printed in hexadecimal",
         LeadingZero: "numbers below ten have a zero in front",
+        LogOfLimit64: "the log reads addressing fields of at most 64 bytes",
         NoLastLineFeed: "the end line has no line feed",
     ;
 }

@@ -1,5 +1,6 @@
 //! The log program: from a capture's bytes to the lines that it prints. From document 01 and Paper 3 of document 02, over the slave.
 
+use super::basics::{register, FULL};
 use super::faults::{rule, Fault::*};
 use super::slave::{MarkPart, NoticePart, Slave};
 
@@ -88,7 +89,7 @@ impl Log {
         let (tick, packet) = rule((0, 4), TickAfterPacket, (188, 0));
         let bytes: [u8; 4] = record[tick..tick + 4].try_into().unwrap();
         let tick = rule(u32::from_be_bytes(bytes), TickLittleEndian, u32::from_le_bytes(bytes));
-        let reply = self.slave.packet(&record[packet..packet + 188], tick);
+        let reply = self.slave.packet_with(register, &record[packet..packet + 188], tick, rule(FULL, LogOfLimit64, 64));
         number(out, self.records);
         out.push(b' ');
         self.records += 1;

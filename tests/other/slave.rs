@@ -287,6 +287,7 @@ impl Slave {
             return Err(8);
         }
         if rule(over, LongTakenUnread, false) && rule(true, LimitAfterCheck, register(&p[..25 + a]) == 0) {
+            self.learn_wrongly(p, a);
             return Err(26);
         }
         if register(&p[..25 + a]) != 0 {
@@ -301,6 +302,20 @@ impl Slave {
         }
         let label = self.label(u16::from_be_bytes([p[6], p[7]]))?;
         self.accept(Accepted { label, sts, md, settings, index: UNKNOWN })
+    }
+
+    /// What a notice above the limit may not teach: its label, its settings, that another notice is gone.
+    fn learn_wrongly(&mut self, p: &[u8; 188], a: usize) {
+        if self.phase != LOCKED {
+            return;
+        }
+        let label = basics::label(self.n, u16::from_be_bytes([p[6], p[7]]));
+        self.next = rule(self.next, LongSetsCount, label.unwrap_or(self.next));
+        let before = Settings { od: self.od, frequency: self.frequency, power: self.power };
+        self.enter(rule(before, LongSettingsEnter, basics::settings(&p[21..21 + a], self.site, before).unwrap_or(before)));
+        if rule(false, LongDropsPending, true) {
+            self.clear();
+        }
     }
 
     /// Numbers 11 to 13 of a numbers notice. It gives no frequency and no power.

@@ -273,7 +273,11 @@ pub fn measure() {
 
     Calls::new(locked, |_| notices::null()).measure_within("null packet, locked, with a limit", 64, 0);
     for (a, notice) in [(0, 1), (163, 3)] {
-        Calls::new(locked, |k| mip(2015 - locked(k).next, &fields[k][..a])).measure_within(&format!("notice, a = {a}, with a limit of 64"), 64, notice);
+        Calls::new(locked, |k| mip(2015 - locked(k).next, &fields[k][..a])).measure_within(
+            &format!("notice, a = {a}, with a limit of 64"),
+            64,
+            notice,
+        );
     }
 
     let slaves: Vec<Slave> = (0..INPUTS).map(|k| of_a110(locked(k))).collect();

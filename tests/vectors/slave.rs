@@ -187,10 +187,11 @@ fn limits(v: &mut Vectors) {
     v.packet_within("8 before 26, hunting", &of(3, 65).with(&[(5, 85)]), 5, gap_filler);
     v.packet_within("64 bytes", &of(3, 64), 5, gap_filler);
     v.packet_within("65 bytes, another MD and OD", &notice(2, 1, 52, &filled(65, -52)), 5, gap_filler);
-    v.packet_within("26 before 9", &of(1, 65).with(&[(89, 0), (88, 0)]), 5, gap_filler);
-    v.packet_within("4 before 26", &of(0, 65).with(&[(1, 0xE0)]), 5, gap_filler);
+    v.packet_within("65 bytes, another pointer: no slip", &of(9, 65), 5, gap_filler);
+    v.packet_within("26 before 9", &of(0, 65).with(&[(89, 0), (88, 0)]), 5, gap_filler);
     v.packet_within("65 bytes on the mark", &of(2015, 65), 9_900_000, gap_filler);
-    v.gap("up to the next mark", 2015);
+    v.packet_within("4 before 26", &of(2014, 65).with(&[(1, 0xE0)]), 5, gap_filler);
+    v.gap("up to the next mark", 2014);
     v.packet_within("65 bytes on a mark with no notice", &of(2015, 65), 5, gap_filler);
     v.packet_within("a limit of 0 reads no field", &of(2014, 20), 5, Some(0));
     v.packet_within("a limit of 255 reads all", &of(2013, 163), 5, Some(255));

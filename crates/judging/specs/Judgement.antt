@@ -1,4 +1,4 @@
--- What judging says of a packet or a numbers notice, in document 01's numbers.
+-- What judging says of a packet or a numbers notice, in the papers' numbers.
 use Rattle.std.specs.Prelude.{ℕ, Option, None, Some, Result, Ok, Err}
 use Rattle.wire.specs.declared.Refusal.{Refusal}
 use Rattle.wire.specs.Reply.{refusal_number}

@@ -1,6 +1,6 @@
 -- What the reader answers: document 01's numbers 1, 2, 4 to 11, and 26 between 8 and 9, the first that applies, or the notice. A reader has a limit of its own
 -- on the addressing field, given with each call (document 02, Paper 9); the full board's is 163, and refuses nothing with 26.
-use Rattle.std.specs.Prelude.{ℕ, ◌+◌, min, List, length, eqb, leb}
+use Rattle.std.specs.Prelude.{ℕ, ◌+◌, min, Bool, ◌||◌, List, length, eqb, leb}
 use Rattle.wire.specs.Reply.{Reply, must, or_else, reply}
 use Rattle.wire.specs.Standards.{packet_length, sync_byte, mip_pid, section_beside, longest_addressing, dvb_second}
 use Rattle.check_value.specs.Register.{register}
@@ -33,6 +33,10 @@ section_refusal s limit =
     (must (leb (individual_addressing_length s) (limit_of limit)) 26
     (must (eqb (register (through_check s)) 0) 9
     0))))))
+
+-- the numbers of a section that come before 9: those of a notice above the limit
+abbrev pub before_check : ℕ → Bool
+before_check k = eqb k 6 || eqb k 7 || eqb k 8 || eqb k 26
 
 -- 10 and 11: the addressing field's form and the times
 unfoldable pub body_refusal : List ℕ → ℕ

@@ -1,4 +1,4 @@
--- A gap-filler is one with a full board that gets a null packet for each packet above the limit (document 02, Paper 9).
+-- A gap-filler is one with a full board that gets a packet with a null packet's PID for each one above the limit (document 02, Paper 9).
 use mathlib.Core.Path.{◌≡◌, refl, sym, ap, ◌∙◌}
 use mathlib.Core.Bool.{Bool, true, false, cond}
 use mathlib.Core.List.{List}

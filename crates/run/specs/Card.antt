@@ -29,9 +29,9 @@ by_gap (gap k) = gap k
 abbrev pub by_gaps : List Call → List Call
 by_gaps = map by_gap
 
--- an empty packet and a gap of one leave the same slave, whatever it was, and 15 for the same ones; its tick and the limit do not matter. So two slaves that begin as
--- one, one behind a card and one told by gaps, are one after each call, and every call that both get has one reply; both are in a run, or neither, and one
--- book is theirs
+-- an empty packet and a gap of one leave the same slave, whatever it was, and 15 for the same ones; its tick and limit do not matter. So two slaves that
+-- begin as one, one behind a card and one told by gaps, are one after each call, and every call that both get has one reply; both are in a run, or neither,
+-- and one book is theirs
 pub record OneByGaps : Type 0 where
   pub unread : (s : Slave) (tick other limit m : ℕ) → packet_of s [] tick limit ≡ packet_of s [] other m
   pub one_slave : (s : Slave) (tick limit : ℕ) → (packet_of s [] tick limit).slave ≡ (gap_of s 1).slave

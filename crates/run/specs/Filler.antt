@@ -1,5 +1,5 @@
--- A gap-filler on a network's stream (document 02, Paper 9): it is one with a full board that gets a null packet in place of each packet whose addressing
--- field is above the gap-filler's limit.
+-- A gap-filler on a network's stream (document 02, Paper 9): it is one with a full board that gets, in place of each packet whose byte 20 is above the
+-- gap-filler's limit, the same with a null packet's PID.
 use Rattle.std.specs.Prelude.{◌≡◌, ℕ, ◌≤◌, cond, List, map, leb}
 use Rattle.wire.specs.Reply.{Reply}
 use Rattle.wire.specs.Standards.{longest_addressing}
@@ -29,8 +29,8 @@ calls_for_full_board = map call_for_full_board
 abbrev pub but_notice : Reply Report → Reply Report
 but_notice = reply_with absent
 
--- any calls with any limits, on any slave: after each call the two slaves are one, and the replies are but for a notice's part; to a packet within the limit
--- they are one
+-- any calls with any limits, on any slave: after each call the two slaves are one, and the replies are one but for the notice's part, or altogether where the
+-- packet is within the limit
 pub record OneByNulls : Type 0 where
   pub slaves : (s : Slave) (calls : List Call) → slave_after s (calls_for_full_board calls) ≡ slave_after s calls
   pub replies : (s : Slave) (before : List Call) (a : Arrival)

@@ -16,7 +16,7 @@ use Rattle.wire.specs.Standards.{mip_pid, packet_length, longest_addressing}
 use Rattle.addressing.specs.declared.Settings.{Settings}
 use Rattle.notice.specs.Mip.{error_indicator, packet_identifier, individual_addressing_length}
 use Rattle.notice.specs.Reader.{limit_of, section_refusal}
-use Rattle.notice.proofs.Limit.{section_alike, over_section}
+use Rattle.notice.proofs.Limit.{section_same, section_alike, Front, over_section, over_26}
 use Rattle.state.specs.Slave.{cold, nothing}
 use Rattle.state.specs.Sound.{sound}
 use Rattle.state.specs.declared.Board.{Board}
@@ -24,14 +24,19 @@ use Rattle.state.specs.declared.Slave.{Slave}
 use Rattle.judging.specs.Judge.{unless_refused, unless_ignored, is_empty, arrival_refusal, carries, judge_mip, judge_arrived}
 use Rattle.judging.specs.Judgement.{Judgement, Counts}
 use Rattle.judging.proofs.Judging.{arrived_length}
-use Rattle.slave.specs.Answer.{Notice, ignored, Report, mark_in, Result, left}
+use Rattle.slave.specs.Answer.{Notice, ignored, Report, notice_in, mark_in, Result, left}
 use Rattle.slave.specs.Step.{on_mark, mark_at, notice_by, passed, unheard, counted}
-use Rattle.slave.specs.Calls.{unless15, step_of, packet_of}
-use Rattle.slave.proofs.Calling.{judged_call, packet_is}
+use Rattle.slave.specs.Calls.{unless15, step_of, ready_refusal, packet_of}
+use Rattle.slave.proofs.Calling.{judged_call, packet_is, ready_sound}
 use Rattle.slave.specs.Limit.{over_number, Plain, nulled, noticed, TeachesNothing}
 
 module _ (s : Slave) (p : List ℕ) (tick l m : ℕ) where
-  -- within two limits it is answered alike, reply and slave
+  -- limits that are the same for a reader are the same for a slave: 163, and all above it
+  pub packet_same : limit_of l ≡ limit_of m → packet_of s p tick l ≡ packet_of s p tick m
+  unfolding packet_of judge_arrived judge_mip
+  packet_same e = rw (section_same p l m e) refl
+
+  -- within two limits a packet is answered alike, reply and slave
   pub packet_alike : individual_addressing_length p ≤ limit_of l → individual_addressing_length p ≤ limit_of m → packet_of s p tick l ≡ packet_of s p tick m
   unfolding packet_of judge_arrived judge_mip
   packet_alike x y = rw (section_alike p l m x y) refl
@@ -73,6 +78,11 @@ module _ (b : Board) (t : Settings) (p : List ℕ) (limit : ℕ) (over : limit_o
   section_among : over_number (section_refusal p limit) ≡ true
   section_among = let e = over_section p limit over in grind (arith, nat_tests)
 
+  -- 26, where 4, 6, 7 and 8 do not apply
+  over_by_26 : error_indicator p ≡ 0 → b.profile ≡ 0 → packet_identifier p ≡ mip_pid → Front p → cond (eqb (error_indicator p) 0) (cond (carries b.profile p) (section_refusal p limit) 0) 4 ≡ 26
+  unfolding carries
+  over_by_26 right own pid k = let e = over_26 p limit over k in grind (arith, nat_tests)
+
   -- with which number it is ignored, 0 where it carries no notice
   abbrev pub over_by : ℕ
   over_by = cond (eqb (error_indicator p) 0) (cond (carries b.profile p) (section_refusal p limit) 0) 4
@@ -98,6 +108,10 @@ module _ (s : Slave) (tick k : ℕ) where
   counted_settings : (counted s k tick).slave.settings ≡ s.settings
   unfolding counted passed unheard
   counted_settings = pick (λ (r : Result Report). r.slave.settings ≡ s.settings) (eqb s.count.phase 2) _ _ refl refl
+
+  counted_notice : (r : Report) → (counted s k tick).reply ≡ given r → notice_in (counted s k tick).reply ≡ notice_by k
+  unfolding counted passed unheard
+  counted_notice r e = grind (arith, nat_tests)
 
   counted_phase : (counted s k tick).slave.count.phase ≡ s.count.phase
   unfolding counted passed unheard
@@ -161,6 +175,7 @@ module _ (s : Slave) (p : List ℕ) (tick : ℕ) where
         (record {
           number = number;
           among = k;
+          ignores = counted_notice s tick number r (ap (λ (x : Result Report). x.reply) (sym is) ∙ e) ∙ by_number number k;
           as_plain = λ q m plain.
               counted_as s tick number
               ∙ ap (λ (n : Notice). noticed n (counted s 0 tick)) (by_number number k)
@@ -172,7 +187,15 @@ module _ (s : Slave) (p : List ℕ) (tick : ℕ) where
           hunting = counted_hunting s tick number;
         })
 
--- ---- a null packet in its place
+    -- with 26, where 4, 6, 7 and 8 do not apply, whatever the check value
+    pub teaches_26 : s.board.profile ≡ 0 → packet_identifier p ≡ mip_pid → error_indicator p ≡ 0 → Front p → (r : Report) → (packet_of s p tick limit).reply ≡ given r
+        → notice_in (packet_of s p tick limit).reply ≡ ignored 26
+    unfolding teaches_nothing
+    teaches_26 own pid right k r e =
+        let t = teaches_nothing own pid r e in
+        t.ignores ∙ ap ignored (over_by_26 s.board s.settings p limit over right own pid k)
+
+-- ---- the same with a null packet's PID in its place
 
 module _ (s : Slave) (p : List ℕ) (tick : ℕ) where
   nulled_length : length (nulled p) ≡ length p
@@ -202,6 +225,12 @@ module _ (s : Slave) (p : List ℕ) (tick : ℕ) where
       let y = nulled_second e in
       grind (arith, nat_tests)
 
+  -- where the packet is not refused it is a plain one
+  pub nulled_plain : (m : ℕ) → ready_refusal s p tick ≡ 0 → Plain s (nulled p) tick m
+  nulled_plain m e =
+      let long = arrived_length s.board.profile p tick (ready_sound s p tick e).1 in
+      rw (nulled_empty, nulled_arrival, (ready_sound s p tick e).1, nulled_judged s.settings m long, ap (λ (n : ℕ). eqb n 0) long) refl
+
   -- so it is refused as the packet is, and counts where that counts
   nulled_call : (m : ℕ) → is_empty p ≡ false → packet_of s (nulled p) tick m ≡ judged_call s p tick (Counts 0)
   nulled_call m e =
@@ -214,7 +243,7 @@ module _ (s : Slave) (p : List ℕ) (tick : ℕ) where
       go zero q = ap (λ (j : Judgement). unless15 (sound s) (step_of s j tick)) (nulled_judged s.settings m (arrived_length s.board.profile p tick q))
       go (suc k) q = refl
 
-  -- above the limit a packet does to any slave, and has in its reply but for the notice's part, what a null packet in its place does and has, for any reader
+  -- above the limit a packet does to any slave, and has in its reply but for the notice's part, what that does and has, for any reader
   pub over_nulled : (limit : ℕ) (over : limit_of limit < individual_addressing_length p) (m : ℕ)
       → packet_of s p tick limit ≡ noticed (notice_by (over_by s.board s.settings p limit over)) (packet_of s (nulled p) tick m)
   over_nulled limit over m =

@@ -1,6 +1,6 @@
 // The calls that a board's firmware links, for C: a slave's start, packets, numbers notices and gaps, its saved block, and notices read and written. Each
 // call that moves a slave is lent it. include/vikombare.h is their header.
-// No call has a condition on its numbers: bad input gets its number of document 01's table. C has no Option, no Result and no enum with values: a number
+// No call has a condition on its numbers: bad input gets the papers' number. C has no Option, no Result and no enum with values: a number
 // stands beside what it says.
 #![tactic(auto)]
 
@@ -88,7 +88,8 @@ pub extern "C" fn vikombare_packet(s: &mut Slave, p: &[u8], tick: Tick) -> Packe
     slave::answer_by!(slave::way_of(s, p, t, LONGEST_ADDRESSING), s, PacketReply)
 }
 
-// The same, its notice read with this limit. Not the one by the other: a reply that a call hands on is copied, which took a plain packet 19 ns for 14.
+// The same, its notice read with this limit. Not the one by the other: a reply that a call hands on is copied, and a plain packet then takes 19 ns instead
+// of 14.
 #[unsafe(no_mangle)]
 pub extern "C" fn vikombare_packet_within(
     s: &mut Slave,

@@ -4,7 +4,7 @@
 --     written_addressing  and as exactly its addressing field
 --     rewrite_accepted    what was read is accepted by the writer
 --     read_written        what is read and written again is the same packet, where its stuffing is 0xFF
---     one_bit_refused     an accepted packet with one bit of its bytes 0 to 24 + a flipped is refused
+--     one_bit_refused     an accepted packet with one bit of its bytes 0 to 24 + a flipped is refused, by a reader of any limit
 use mathlib.Core.Path.{◌≡◌, refl, sym, ap, ap₂, ◌∙◌, subst}
 use mathlib.Core.Bool.{Bool, true, false, cond}
 use mathlib.Core.List.{List, ◌++◌, append_assoc}
@@ -33,7 +33,7 @@ use Rattle.notice.specs.Reader.{limit_of, read_refusal, read_of}
 use Rattle.writer.specs.Writer.{write_refusal, head_of, fields_of, stuffing, mip_of, write_of}
 use Rattle.notice.specs.declared.Notice.{Notice}
 use Rattle.notice.proofs.Sound.{Sound, accepted_sound, sound_reads, field_whole, reads_sound}
-use Rattle.notice.proofs.Limit.{over_read}
+use Rattle.notice.proofs.Limit.{over_read, sound_front}
 use Rattle.writer.proofs.Writing.{fields_length, length_stuffing, judged, write_none}
 use Rattle.writer.proofs.Front.{head_again}
 
@@ -141,7 +141,7 @@ module _ (out : List ℕ) (n : Notice) (f : List ℕ) (e : write_refusal (length
   unfolding mip_of fields_of head_of
   written_over limit h =
       ap (λ (s : List ℕ). read_of s limit) left
-      ∙ over_read (mip_of n f) limit h longest_addressing (packet_sound n f (length out) fitting e k longest_addressing fitting.short)
+      ∙ (let q = sound_front (mip_of n f) longest_addressing (packet_sound n f (length out) fitting e k longest_addressing fitting.short) in over_read (mip_of n f) limit h q.0 q.1)
 
   pub written_addressing : addressing_field (take packet_length (write_of out n f).bytes) ≡ f
   unfolding mip_of fields_of head_of
@@ -222,9 +222,9 @@ module _ (s : List ℕ) (limit : ℕ) (n : Notice) (e : read_of s limit ≡ give
 
 -- ---- one bit
 
-module _ (s : List ℕ) (bytes : Bytes s) (limit : ℕ) (k : Sound s limit) (i b : ℕ) (hi : i ≤ 24 + individual_addressing_length s) (hb : b < 8) where
+module _ (s : List ℕ) (bytes : Bytes s) (limit m : ℕ) (k : Sound s limit) (i b : ℕ) (hi : i ≤ 24 + individual_addressing_length s) (hb : b < 8) where
   -- a flip in the length of the addressing field is caught by the section's length
-  length_flip : i ≡ 20 → Sound (flipped s i b) limit → ⊥
+  length_flip : i ≡ 20 → Sound (flipped s i b) m → ⊥
   length_flip z c =
       let x : ℕ = bit_xor (get_or s i 0) (2 ^ b) in
       let new : get_or (flipped s i b) 20 0 ≡ bit_xor (get_or s 20 0) (2 ^ b) =
@@ -233,32 +233,32 @@ module _ (s : List ℕ) (bytes : Bytes s) (limit : ℕ) (k : Sound s limit) (i b
       flip_differs (get_or s 20 0) b (omega (arith, new, old, c.section, k.section))
 
   -- any other flip by the check value
-  other_flip : (i ≡ 20 → ⊥) → Sound (flipped s i b) limit → ⊥
+  other_flip : (i ≡ 20 → ⊥) → Sound (flipped s i b) m → ⊥
   other_flip z c =
-      let m : ℕ = 25 + individual_addressing_length s in
+      let end : ℕ = 25 + individual_addressing_length s in
       let x : ℕ = bit_xor (get_or s i 0) (2 ^ b) in
       let same : get_or (flipped s i b) 20 0 ≡ get_or s 20 0 = get_or-set_other s i 20 x 0 (λ q. z (sym q)) in
-      let below : i < m = omega arith in
-      let cut : through_check (flipped s i b) ≡ flipped (take m s) i b =
+      let below : i < end = omega arith in
+      let cut : through_check (flipped s i b) ≡ flipped (take end s) i b =
       ap (λ (j : ℕ). take (25 + j) (flipped s i b)) same
-      ∙ take-set-lt m s i x below
-      ∙ ap (λ (v : ℕ). set (take m s) i (bit_xor v (2 ^ b))) (sym (get_or-take m s i 0 below)) in
-      misses_no_bit (take m s) i b (omega (arith, length-take-le m s (omega (arith, k.long, k.room)))) hb (take_bytes m s bytes)
+      ∙ take-set-lt end s i x below
+      ∙ ap (λ (v : ℕ). set (take end s) i (bit_xor v (2 ^ b))) (sym (get_or-take end s i 0 below)) in
+      misses_no_bit (take end s) i b (omega (arith, length-take-le end s (omega (arith, k.long, k.room)))) hb (take_bytes end s bytes)
       (ap register (sym cut) ∙ c.check ∙ sym k.check)
 
--- an accepted packet with one bit of its bytes 0 to 24 + a flipped is refused
-pub one_bit_refused : (s : List ℕ) (limit : ℕ) (n : Notice) → read_of s limit ≡ given n → Bytes s → (i b : ℕ) → i ≤ 24 + individual_addressing_length s → b < 8
-    → (r : ℕ) × (read_of (flipped s i b) limit ≡ refused (suc r))
+-- an accepted packet with one bit of its bytes 0 to 24 + a flipped is refused, also where the limits of the two reads differ
+pub one_bit_refused : (s : List ℕ) (limit m : ℕ) (n : Notice) → read_of s limit ≡ given n → Bytes s → (i b : ℕ) → i ≤ 24 + individual_addressing_length s → b < 8
+    → (r : ℕ) × (read_of (flipped s i b) m ≡ refused (suc r))
 unfolding read_of
-one_bit_refused s limit n e bytes i b hi hb = go (read_refusal (flipped s i b) limit) refl
+one_bit_refused s limit m n e bytes i b hi hb = go (read_refusal (flipped s i b) m) refl
   where
-    never : Sound (flipped s i b) limit → ⊥
+    never : Sound (flipped s i b) m → ⊥
     never c = pick (ℕ_discrete i 20)
       where
         pick : Dec (i ≡ 20) → ⊥
-        pick (yes z) = length_flip s bytes limit (reads_sound s limit n e).0 i b hi hb z c
-        pick (no z) = other_flip s bytes limit (reads_sound s limit n e).0 i b hi hb z c
+        pick (yes z) = length_flip s bytes limit m (reads_sound s limit n e).0 i b hi hb z c
+        pick (no z) = other_flip s bytes limit m (reads_sound s limit n e).0 i b hi hb z c
 
-    go : (v : ℕ) → read_refusal (flipped s i b) limit ≡ v → (r : ℕ) × (read_of (flipped s i b) limit ≡ refused (suc r))
-    go zero z = absurd (never (accepted_sound (flipped s i b) limit z))
+    go : (v : ℕ) → read_refusal (flipped s i b) m ≡ v → (r : ℕ) × (read_of (flipped s i b) m ≡ refused (suc r))
+    go zero z = absurd (never (accepted_sound (flipped s i b) m z))
     go (suc r) z = (r, ap (λ (v : ℕ). reply v (notice_in (flipped s i b))) z)

@@ -52,7 +52,7 @@ impl Comparison<Calls> {
             self.saw_step(PACKET[usize::from(slave.profile & 1)], slave, tick, &stepped)?;
         }
         if let (Some(limit), 0, 188) = (limit, stepped.reply.number, packet.len()) {
-            self.saw_limited(slave, packet, limit as i64, &stepped);
+            self.saw_limited(slave, packet, limit.min(1_000) as i64, &stepped);
         }
         Ok(stepped)
     }
@@ -145,7 +145,7 @@ impl Comparison<Calls> {
         }
     }
 
-    /// Counts what the packet of a reader with this limit reached.
+    /// Counts what the packet of a reader with this limit reached; 1,000 stands for every limit of 1,000 or more.
     fn saw_limited(&mut self, before: Slave, packet: &[u8], limit: i64, after: &Step) {
         let a = i64::from(packet[20]);
         match (after.reply.notice, after.reply.ignored) {
@@ -158,6 +158,8 @@ impl Comparison<Calls> {
                 self.saw(LIMITED, "26, by a limit of", limit);
                 self.saw(LIMITED, "26, of a hunting (1), a locked slave (2)", before.phase);
                 self.saw(LIMITED, "26, with a wrong check value", basics::register(&packet[..25 + a as usize]) != 0);
+                let pointer = u16::from_be_bytes([packet[6], packet[7]]);
+                self.saw(LIMITED, "26, the label by its pointer counted (1) or another (0)", before.next.checked_add(pointer) == Some(before.n - 1));
             }
             (3, 8) if a > 163 => self.saw(LIMITED, "8 by a above 163, by a limit of", limit),
             (0, _) if a > limit => self.saw(LIMITED, "plain, or of profile 1, with byte 20 above the limit", before.profile),

@@ -99,6 +99,11 @@ impl Comparison<Calls> {
                     (whole[5], whole[20]) = ((a + 19) as u8, a as u8);
                 }
                 for limit in notices::LIMITS {
+                    // a pointer that is not the slave's own
+                    let mut elsewhere = whole.clone();
+                    elsewhere[7] ^= 1;
+                    notices::reseal(&mut elsewhere);
+                    self.packet_within(slave, &elsewhere, IN_TIME, limit)?;
                     for (at, bit) in [(0, 0), (24 + a, 1), (5, 1), (1, 0x80), (1, 0x20), (2, 0x01)] {
                         let mut packet = whole.clone();
                         packet[at.min(187)] ^= bit;
