@@ -78,11 +78,6 @@ module _ (b : Board) (t : Settings) (p : List ℕ) (limit : ℕ) (over : limit_o
   section_among : over_number (section_refusal p limit) ≡ true
   section_among = let e = over_section p limit over in grind (arith, nat_tests)
 
-  -- 26, where 4, 6, 7 and 8 do not apply
-  over_by_26 : error_indicator p ≡ 0 → b.profile ≡ 0 → packet_identifier p ≡ mip_pid → Front p → cond (eqb (error_indicator p) 0) (cond (carries b.profile p) (section_refusal p limit) 0) 4 ≡ 26
-  unfolding carries
-  over_by_26 right own pid k = let e = over_26 p limit over k in grind (arith, nat_tests)
-
   -- with which number it is ignored, 0 where it carries no notice
   abbrev pub over_by : ℕ
   over_by = cond (eqb (error_indicator p) 0) (cond (carries b.profile p) (section_refusal p limit) 0) 4
@@ -94,6 +89,11 @@ module _ (b : Board) (t : Settings) (p : List ℕ) (limit : ℕ) (over : limit_o
   over_among : b.profile ≡ 0 → packet_identifier p ≡ mip_pid → over_number over_by ≡ true
   unfolding carries
   over_among own pid = let e = section_among in grind (arith, nat_tests)
+
+  -- 26, where 4, 6, 7 and 8 do not apply
+  over_by_26 : error_indicator p ≡ 0 → b.profile ≡ 0 → packet_identifier p ≡ mip_pid → Front p → over_by ≡ 26
+  unfolding carries
+  over_by_26 right own pid k = let e = over_26 p limit over k in grind (arith, nat_tests)
 
 -- ---- what a counted packet leaves and replies, but for the notice's part
 module _ (s : Slave) (tick k : ℕ) where
