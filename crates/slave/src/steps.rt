@@ -198,7 +198,6 @@ impl Locked<'_> {
 
     // A packet without a notice, between the marks: the label moves on.
     #[tactic(auto, using(crate::proofs::Stepping::next_below), unfolding(crate::specs::Step::mark_at, crate::specs::Step::passed, crate::specs::Step::counted))]
-    #[inline(always)]
     pub(crate) fn pass_on(self) -> Short
         requires { self.ready.slave.now.count.next ≡ 0 → ⊥ }
         ensures { short_of self.entry.ready.slave.now result ≡ counted self.entry.ready.slave.now 0 self.entry.ready.tick }
