@@ -1,5 +1,5 @@
 -- The steps of a sound slave on a packet that was judged (document 01, "Steps of a slave").
-use Rattle.std.specs.Prelude.{ℕ, zero, suc, ◌+◌, ◌%◌, Bool, false, cond, not, ◌&&◌, eqb}
+use Rattle.std.specs.Prelude.{ℕ, zero, suc, ◌+◌, ◌%◌, min, Bool, false, cond, not, ◌&&◌, eqb}
 use Rattle.std.proofs.Math.Option.{Option, none, some}
 use Rattle.wire.specs.Reply.{given}
 use Rattle.times.specs.Release.{due_of}
@@ -7,7 +7,7 @@ use Rattle.cadence.specs.Label.{label_of, next_label}
 use Rattle.cadence.specs.MobileFrame.{frame_marks, mobile_place}
 use Rattle.addressing.specs.declared.Settings.{Settings}
 use Rattle.state.specs.Profile.{second}
-use Rattle.state.specs.Slave.{unknown, nothing}
+use Rattle.state.specs.Slave.{unknown, most_coasted, nothing}
 use Rattle.state.specs.declared.Count.{Count}
 use Rattle.state.specs.declared.Waiting.{Waiting}
 use Rattle.state.specs.declared.Slave.{Slave}
@@ -18,6 +18,10 @@ use Rattle.slave.specs.Answer.{Notice, absent, taken, slip, ignored, Mark, unmar
 abbrev pub raised : ℕ → ℕ → ℕ
 raised index marks = cond (eqb index unknown) unknown ((index + marks) % frame_marks)
 
+-- and the marks coasted since the last notice taken, up to 255 (document 02, Paper 12)
+abbrev pub coasted_on : ℕ → ℕ → ℕ
+coasted_on coasted marks = min (coasted + marks) most_coasted
+
 -- the place of the packet with this label: the mark passed is one less than the next mark's index, 19 before 0
 abbrev pub place_of : ℕ → ℕ → Option ℕ
 place_of index label = cond (eqb index unknown) none (some (mobile_place ((index + 19) % frame_marks) label))
@@ -27,11 +31,11 @@ abbrev pub labelled : Count → ℕ → Count
 labelled c next = record c { next = next }
 
 abbrev pub past : Count → ℕ → Count
-past c marks = record c { index = raised c.index marks }
+past c marks = record c { index = raised c.index marks; coasted = coasted_on c.coasted marks }
 
--- the count of a slave that takes a notice, and a slave with what a step may change
+-- the count of a slave that takes a notice: no mark has passed since. And a slave with what a step may change
 abbrev pub locked_at : (next index : ℕ) → Count
-locked_at next index = record { phase = 2; next = next; index = index }
+locked_at next index = record { phase = 2; next = next; index = index; coasted = 0 }
 
 abbrev pub moved_to : Slave → Settings → Count → Waiting → Slave
 moved_to s t c w = record s { settings = t; count = c; waiting = w }

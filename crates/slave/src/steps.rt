@@ -4,14 +4,14 @@ ghost use Rattle.std.specs.Prelude.{◌≡◌, cond, ◌<◌, ◌≤◌, eqb};
 ghost use Rattle.wire.specs.Reply.{refusal_number};
 ghost use Rattle.cadence.specs.Label.{next_label};
 ghost use Rattle.slave.specs.Answer.{option_of, notice_of, mark_of, report_of, untimed, unmarked};
-ghost use Rattle.slave.specs.Step.{raised, place_of, labelled, past, locked_at, mark_at, count_at, kept_at, counted_report, unheard_report, counted, agrees, index_before, index_after, turns, notice_taken, mark_taken, took};
+ghost use Rattle.slave.specs.Step.{raised, coasted_on, place_of, labelled, past, locked_at, mark_at, count_at, kept_at, counted_report, unheard_report, counted, agrees, index_before, index_after, turns, notice_taken, mark_taken, took};
 ghost use Rattle.slave.specs.Ways.{short_of, marked_of, moved_of};
 
 use crate::ready::{Locked, Ready};
 use crate::{Counted, MarkPart, Marked, Moved, NoticePart, Short};
 use cadence::FRAME_MARKS;
 use judging::Taken;
-use state::{Count, LOCKED, PENDING, Slave, UNKNOWN_INDEX, Waiting};
+use state::{Count, LOCKED, MOST_COASTED, PENDING, Slave, UNKNOWN_INDEX, Waiting};
 use wire::Refusal;
 
 // A known index after some marks. Here and below the index is the count's number, and 255 its own word for none.
@@ -24,6 +24,15 @@ fn raised(index: u8, marks: u32) -> u8
     }
     // proved to lose nothing
     ((u32::from(index) + marks) % u32::from(FRAME_MARKS)) as u8
+}
+
+// The marks coasted after some more: counted up to 255.
+fn coasted_on(coasted: u8, marks: u32) -> u8
+    requires { marks ≤ 65536 }
+    ensures { result ≡ coasted_on coasted marks }
+{
+    // proved to lose nothing
+    (u32::from(coasted) + marks).min(u32::from(MOST_COASTED)) as u8
 }
 
 // The count with another label.
@@ -40,6 +49,7 @@ pub(crate) fn past(c: Count, marks: u32) -> Count
 {
     Count {
         index: raised(c.index, marks),
+        coasted: coasted_on(c.coasted, marks),
         ..c
     }
 }
@@ -277,6 +287,7 @@ impl Ready<'_> {
                 phase: LOCKED,
                 next: next_label(n, heard.label),
                 index,
+                coasted: 0,
             },
             waiting: Waiting {
                 pending: PENDING,

@@ -10,19 +10,24 @@ use Rattle.state.specs.declared.Slave.{Slave}
 abbrev pub unknown : ℕ
 unknown = 255
 
+-- the marks passed since the last notice taken are counted up to this number, which then holds, and which a slave has that never took one
+-- (document 02, Paper 12)
+abbrev pub most_coasted : ℕ
+most_coasted = 255
+
 -- nothing pending has STS and MD 0
 abbrev pub nothing : Waiting
 nothing = record { pending = 0; sts = 0; md = 0 }
 
 -- a count that has not begun
-abbrev pub uncounted : ℕ → Count
-uncounted phase = record { phase = phase; next = 0; index = unknown }
+abbrev pub uncounted : (phase coasted : ℕ) → Count
+uncounted phase coasted = record { phase = phase; next = 0; index = unknown; coasted = coasted }
 
 -- the very cold slave, which 15 leaves
 abbrev pub cold : Slave
 cold =
-    record { board = record { profile = 0; n = 0; site = 0; tad = 0 }; settings = no_settings; count = uncounted 0; waiting = nothing }
+    record { board = record { profile = 0; n = 0; site = 0; tad = 0 }; settings = no_settings; count = uncounted 0 0; waiting = nothing }
 
 -- what an accepted start gives
 abbrev pub hunting : Board → Slave
-hunting b = record { board = b; settings = no_settings; count = uncounted 1; waiting = nothing }
+hunting b = record { board = b; settings = no_settings; count = uncounted 1 most_coasted; waiting = nothing }

@@ -5,7 +5,7 @@ use Rattle.times.specs.Release.{in_second}
 use Rattle.cadence.specs.MobileFrame.{frame_marks}
 use Rattle.addressing.specs.declared.Settings.{Settings}
 use Rattle.state.specs.Profile.{second, delay_kept, settings_kept}
-use Rattle.state.specs.Slave.{unknown}
+use Rattle.state.specs.Slave.{unknown, most_coasted}
 use Rattle.state.specs.declared.Board.{Board}
 use Rattle.state.specs.declared.Count.{Count}
 use Rattle.state.specs.declared.Waiting.{Waiting}
@@ -38,11 +38,11 @@ waiting_fits b od w =
 unfoldable pub is_unset : Settings → Bool
 is_unset t = is_zero t.od && is_zero t.frequency && eqb t.power 0
 
--- label 0 and the unknown index
+-- label 0, the unknown index, and no notice taken ever
 unfoldable pub is_uncounted : Count → Bool
-is_uncounted c = eqb c.next 0 && eqb c.index unknown
+is_uncounted c = eqb c.next 0 && eqb c.index unknown && eqb c.coasted most_coasted
 
--- hunting has its zeros and the unknown index
+-- hunting has its zeros, the unknown index and 255 marks coasted; locked may have any number of them
 unfoldable pub hunting_fits : Settings → Count → Waiting → Bool
 hunting_fits t c w = is_unset t && is_uncounted c && is_nothing w
 

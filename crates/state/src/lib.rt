@@ -35,14 +35,18 @@ pub const PENDING: u8 = 1;
 
 pub const UNKNOWN_INDEX: u8 = 255;
 
-// Where the slave stands in the cadence: its phase, 1 where it hunts and 2 where it is locked, the next packet's label and the next mark's index.
-// Phase and index are numbers, not an enum and an Option, since C lends a slave with any bytes there.
+// The marks passed since the last notice taken are counted up to this number, which a slave has that never took one (document 02, Paper 12).
+pub const MOST_COASTED: u8 = 255;
+
+// Where the slave stands in the cadence: its phase, 1 where it hunts and 2 where it is locked, the next packet's label, the next mark's index, and the marks
+// passed since the last notice taken. Phase and index are numbers, not an enum and an Option, since C lends a slave with any bytes there.
 #[repr(C)]
 #[derive(Clone, Copy, PartialEq, Eq)]
 pub struct Count {
     pub phase: u8,
     pub next: u16,
     pub index: u8,
+    pub coasted: u8,
 }
 
 // The notice that waits for its mark, in the profile's own unit. Pending is a number beside it, not an Option, since C lends a slave with any bytes there.
@@ -72,24 +76,25 @@ pub fn nothing_waiting() -> Waiting
 }
 
 // A count that has not begun.
-fn uncounted(phase: u8) -> Count
-    ensures { result ≡ uncounted phase }
+fn uncounted(phase: u8, coasted: u8) -> Count
+    ensures { result ≡ uncounted phase coasted }
 {
     Count {
         phase,
         next: 0,
         index: UNKNOWN_INDEX,
+        coasted,
     }
 }
 
-// A slave of this board and phase that was told nothing.
-fn untold(board: Board, phase: u8) -> Slave
-    ensures { result ≡ record { board = board; settings = no_settings; count = uncounted phase; waiting = nothing } }
+// A slave of this board and count that was told nothing.
+fn untold(board: Board, count: Count) -> Slave
+    ensures { result ≡ record { board = board; settings = no_settings; count = count; waiting = nothing } }
 {
     Slave {
         board,
         settings: addressing::no_settings(),
-        count: uncounted(phase),
+        count,
         waiting: nothing_waiting(),
     }
 }
@@ -98,14 +103,14 @@ fn untold(board: Board, phase: u8) -> Slave
 pub fn cold_slave() -> Slave
     ensures { result ≡ cold }
 {
-    untold(Board::default(), COLD)
+    untold(Board::default(), uncounted(COLD, 0))
 }
 
 // A hunting slave.
 pub fn hunting_slave(b: Board) -> Slave
     ensures { result ≡ hunting b }
 {
-    untold(b, HUNTING)
+    untold(b, uncounted(HUNTING, MOST_COASTED))
 }
 
 // A tick, an STS, an MD or a TAD is within the profile's second. Here and below the profile is a number of the slave's, known when it runs, which chooses
