@@ -7,4 +7,5 @@ pub mod Sentences
 pub mod Card
 pub mod Filler
 pub mod Late
+pub mod Coasting
 pub mod Examples

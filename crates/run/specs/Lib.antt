@@ -7,3 +7,4 @@ pub mod Sentences
 pub mod Card
 pub mod Late
 pub mod Filler
+pub mod Coasting

@@ -9,12 +9,14 @@ use lib.ListN.{length, drop, get_or, length-append, length-drop}
 use lib.Seq.{get_or-drop, drop-drop, drop_at}
 use lib.Signed.{mag}
 use Rattle.std.proofs.lemmas.Bool.{and_parts, cond_both, eqb-true, ltb-true}
+use Rattle.std.proofs.lemmas.Bool.Decides.{nat_tests}
 use Rattle.wire.specs.BigEndian.{be16, be32}
+use Rattle.wire.specs.Signed.{signed16, signed32, bits16, bits32}
 use Rattle.wire.proofs.Numbers.{spelled16, spelled32, of16, of32, signed_bits, bits_signed}
 use Rattle.wire.proofs.Bytes.{Bytes, no_bytes, and_byte, and_bytes, bytes_16, bytes_32, elements}
 use Rattle.wire.proofs.Puts.{put_fits, put_behind}
 use Rattle.state.specs.declared.Slave.{Slave}
-use Rattle.saved.specs.Layout.{body_length, Field, byte, pair, word, slave_of, body_fields, number_in, bytes_in, written, slave_in, body_of, first_byte, put_in, put_all}
+use Rattle.saved.specs.Layout.{Body, whole, old, length_of, Field, byte, pair, word, slave_of, body_fields, number_in, bytes_in, written, had_in, slave_in, body_of, first_byte, put_in, put_all}
 
 -- a field's bytes, and the range of its numbers
 abbrev pub width_of : Field → ℕ
@@ -42,7 +44,7 @@ in_range (f ∷ fs) = ltb f.1 (range_of f.0) && in_range fs
 
 -- every part is a number of its width, as those of every slave that code holds are
 pub record Fits (s : Slave) : Type 0 where
-  pub fields : in_range (body_fields s) ≡ true
+  pub fields : in_range (body_fields whole s) ≡ true
   pub od : mag s.settings.od < 32768
   pub frequency : mag s.settings.frequency < 2147483648
 
@@ -59,9 +61,14 @@ fields_bytes (f ∷ fs) r =
     let q = and_parts (ltb f.1 (range_of f.0)) _ r in
     and_bytes (bytes_in f.0 f.1) (written fs) (field_bytes f.0 f.1 (ltb-true _ _ q.0)) (fields_bytes fs q.1)
 
-pub body_bytes : (s : Slave) → Fits s → Bytes (body_of s)
+-- so are those of either body
+pub in_body : (body : Body) (s : Slave) → Fits s → in_range (body_fields body s) ≡ true
+in_body whole s f = f.fields
+in_body old s f = let all = f.fields in grind (arith, nat_tests)
+
+pub body_bytes : (body : Body) (s : Slave) → Fits s → Bytes (body_of body s)
 unfolding body_of
-body_bytes s f = fields_bytes (body_fields s) f.fields
+body_bytes body s f = fields_bytes (body_fields body s) (in_body body s f)
 
 field_length : (f : Field) (v : ℕ) → length (bytes_in f v) ≡ width_of f
 field_length (byte i) v = refl
@@ -154,27 +161,29 @@ module _ (b : List ℕ) where
       (sym (drop-drop (width_of f.0) k b) ∙ ap (drop (width_of f.0)) here ∙ drop_at x (written fs ++ t) (width_of f.0) (field_length f.0 f.1)) g)
 
 module _ (s : Slave) (f : Fits s) where
-  own_parts : (other : Field → ℕ) → slave_of (number_at other (body_fields s)) ≡ s
-  own_parts other =
+  own_settings : record { od = signed16 (bits16 s.settings.od); frequency = signed32 (bits32 s.settings.frequency); power = s.settings.power } ≡ s.settings
+  own_settings =
       λ i.
       record {
-        board = s.board;
-        settings =
-            record {
-              od = signed_bits 32768 s.settings.od f.od i;
-              frequency = signed_bits 2147483648 s.settings.frequency f.frequency i;
-              power = s.settings.power;
-            };
-        count = s.count;
-        waiting = s.waiting;
+        od = signed_bits 32768 s.settings.od f.od i;
+        frequency = signed_bits 2147483648 s.settings.frequency f.frequency i;
+        power = s.settings.power;
       }
 
-  -- bytes that begin with a slave's body hold that slave
-  pub slave_back : (rest : List ℕ) → slave_in (body_of s ++ rest) ≡ s
+  own_parts : (body : Body) (other : Field → ℕ) → had_in body (slave_of (number_at other (body_fields body s))) ≡ had_in body s
+  own_parts whole other = λ i. record s { settings = own_settings i }
+  own_parts old other = λ i. had_in old (record s { settings = own_settings i })
+
+  packed_body : (body : Body) → packed 0 (body_fields body s) ≡ true
+  packed_body whole = refl
+  packed_body old = refl
+
+  -- bytes that begin with a slave's body hold that slave, as the body has it
+  pub slave_back : (body : Body) (rest : List ℕ) → slave_in body (body_of body s ++ rest) ≡ had_in body s
   unfolding slave_in body_of
-  slave_back rest =
-      let b : List ℕ = body_of s ++ rest in
-      (λ i. slave_of (λ g. fields_read b (body_fields s) 0 rest refl f.fields refl g i)) ∙ own_parts (number_in b)
+  slave_back body rest =
+      let b : List ℕ = body_of body s ++ rest in
+      (λ i. had_in body (slave_of (λ g. fields_read b (body_fields body s) 0 rest (packed_body body) (in_body body s f) refl g i))) ∙ own_parts body (number_in b)
 
 -- ---- the slave that some bytes hold has their first as its body
 
@@ -213,10 +222,21 @@ module _ (b : List ℕ) where
     fields_again [] = refl
     fields_again (f ∷ fs) = ap₂ ◌++◌ (field_again f.0) (fields_again fs)
 
-    own_fields : body_fields (slave_in b) ≡ read_all (body_fields (slave_in b))
-    unfolding slave_in
-    own_fields = rw (bits_signed 32768 (number_in b (pair 10)) (number_fits (pair 10)), bits_signed 2147483648 (number_in b (word 12)) (number_fits (word 12)))
+    od_again : bits16 (signed16 (number_in b (pair 10))) ≡ number_in b (pair 10)
+    od_again = bits_signed 32768 (number_in b (pair 10)) (number_fits (pair 10))
 
-    pub body_again : body_of (slave_in b) ≡ elements body_length 0 b
+    frequency_again : bits32 (signed32 (number_in b (word 12))) ≡ number_in b (word 12)
+    frequency_again = bits_signed 2147483648 (number_in b (word 12)) (number_fits (word 12))
+
+    own_fields : (body : Body) → body_fields body (slave_in body b) ≡ read_all (body_fields body (slave_in body b))
+    unfolding slave_in
+    own_fields whole = rw (od_again, frequency_again)
+    own_fields old = rw (od_again, frequency_again)
+
+    spans_are : (body : Body) → spans (body_fields body (slave_in body b)) ≡ elements (length_of body) 0 b
+    spans_are whole = refl
+    spans_are old = refl
+
+    pub body_again : (body : Body) → body_of body (slave_in body b) ≡ elements (length_of body) 0 b
     unfolding body_of
-    body_again = ap written own_fields ∙ fields_again (body_fields (slave_in b))
+    body_again body = ap written (own_fields body) ∙ fields_again (body_fields body (slave_in body b)) ∙ spans_are body

@@ -3,6 +3,9 @@ pub mod Body
 pub mod Shape
 pub mod Fitting
 pub mod Answers
+pub mod Own
 pub mod Resumed
+pub mod Flipped
+pub mod Older
 pub mod Accepted
 pub mod Examples

@@ -4,13 +4,20 @@ use mathlib.Core.Bool.{true}
 use mathlib.Core.List.{List}
 use Prim.Native.Nat.{ℕ, ◌+◌, ◌-◌, ◌≤◌}
 use native.Mathlib.Omega.{arith}
+use lib.Dec.{eqb}
 use lib.ListN.{length, length-drop}
+use Rattle.std.proofs.lemmas.Bool.{eqb-false}
 use Rattle.std.proofs.lemmas.Bool.Decides.{nat_tests}
-use Rattle.saved.specs.Layout.{body_length}
-use Rattle.saved.specs.Block.{trailer_length, distance, shaped, from_body}
+use Rattle.wire.proofs.Tests.{split}
+use Rattle.saved.specs.Layout.{Body, whole, old, length_of}
+use Rattle.saved.specs.Block.{trailer_length, distance, body_at, shaped, from_body}
+
+-- the body that a distance says fits in front of the trailer
+pub body_room : (d : ℕ) → length_of old ≤ d → length_of (body_at d) ≤ d
+body_room d h = split (λ (x : Body). length_of x ≤ d) (eqb d (length_of old)) old whole (λ e. h) (λ e. let n = eqb-false _ _ e in omega arith)
 
 module _ (b : List ℕ) (s : shaped b ≡ true) where
-  pub shape_room : (body_length ≤ distance b) × (distance b + trailer_length ≤ length b)
+  pub shape_room : (length_of old ≤ distance b) × (distance b + trailer_length ≤ length b)
   unfolding shaped
   shape_room = grind (arith, nat_tests)
 

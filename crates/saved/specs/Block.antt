@@ -1,7 +1,7 @@
--- The saved block (document 01, "Saved block"): a body, then a trailer of site, distance and check value. What save replies and writes (15, 18), and
--- what resume leaves and replies (15, 16, 17).
+-- The saved block (document 01, "Saved block"; document 02, Paper 12): a body, then a trailer of site, distance and check value. What save replies and
+-- writes (15, 18), and what resume leaves and replies (15, 16, 17).
 use Rattle.std.specs.Prelude as std
-use Rattle.std.specs.Prelude.{ℕ, ◌+◌, ◌-◌, Bool, ◌&&◌, List, ◌++◌, length, drop, eqb, leb}
+use Rattle.std.specs.Prelude.{ℕ, ◌+◌, ◌-◌, Bool, cond, ◌&&◌, List, ◌++◌, length, drop, eqb, leb}
 use Rattle.wire.specs.Reply.{must, reply, kept_by, Output, filled, reply_of}
 use Rattle.wire.specs.declared.Refusal.{Refusal}
 use Rattle.wire.specs.BigEndian.{be16_at, bytes16}
@@ -12,30 +12,30 @@ use Rattle.state.specs.declared.Board.{Board}
 use Rattle.state.specs.declared.Slave.{Slave}
 use Rattle.slave.specs.Answer.{Result, left}
 use Rattle.slave.specs.Calls.{start_of}
-use Rattle.saved.specs.Layout.{body_length, body_of, slave_in}
+use Rattle.saved.specs.Layout.{Body, whole, old, length_of, body_of, slave_in}
 
 abbrev pub trailer_length : ℕ
 trailer_length = 8
 
-abbrev pub block_length : ℕ
-block_length = body_length + trailer_length
+abbrev pub block_length : Body → ℕ
+block_length body = length_of body + trailer_length
 
 -- ---- save
 
 -- body through distance, which the check value covers
-unfoldable pub covered_of : Slave → List ℕ
-covered_of s = body_of s ++ bytes16 s.board.site ++ bytes16 body_length
+unfoldable pub covered_of : Body → Slave → List ℕ
+covered_of body s = body_of body s ++ bytes16 s.board.site ++ bytes16 (length_of body)
 
-unfoldable pub block_of : Slave → List ℕ
-block_of s = sealed (covered_of s)
+unfoldable pub block_of : Body → Slave → List ℕ
+block_of body s = sealed (covered_of body s)
 
 -- 15, 18, for an output of this length
 unfoldable pub save_refusal : Slave → ℕ → ℕ
-save_refusal s room = must (sound s) 15 (must (leb block_length room) 18 0)
+save_refusal s room = must (sound s) 15 (must (leb (block_length whole) room) 18 0)
 
 -- a number keeps the output; else the block, and all bytes after it kept
 unfoldable pub save_of : Slave → List ℕ → Output
-save_of s out = filled (save_refusal s (length out)) out (block_of s ++ drop block_length out)
+save_of s out = filled (save_refusal s (length out)) out (block_of whole s ++ drop (block_length whole) out)
 
 -- what a save leaves
 abbrev pub saved_output : std.Result (Unit {0}) Refusal → List ℕ → Output
@@ -54,33 +54,41 @@ trailer_site b = be16_at (trailer b) 0
 abbrev pub distance : List ℕ → ℕ
 distance b = be16_at (trailer b) 2
 
+-- it is old at exactly 30
+abbrev pub body_at : ℕ → Body
+body_at d = cond (eqb d (length_of old)) old whole
+
 -- the distance is long enough for a body and leads to a byte of what is lent
 unfoldable pub shaped : List ℕ → Bool
-shaped b = leb body_length (distance b) && leb (distance b + trailer_length) (length b)
+shaped b = leb (length_of old) (distance b) && leb (distance b + trailer_length) (length b)
 
 -- body through check value
 unfoldable pub from_body : List ℕ → List ℕ
 from_body b = drop (length b - trailer_length - distance b) b
 
 abbrev pub held : List ℕ → Slave
-held b = slave_in (from_body b)
+held b = slave_in (body_at (distance b)) (from_body b)
 
--- no 16: the shape, the check value, the trailer's site, and parts that a sound slave has
-unfoldable pub block_fits : List ℕ → Bool
-block_fits b = shaped b && eqb (register (from_body b)) 0 && eqb (trailer_site b) (held b).board.site && sound (held b)
+-- no 16, of a block that is read as this slave: the shape, the check value, the trailer's site, and parts that a sound slave has
+unfoldable pub block_fits : Slave → List ℕ → Bool
+block_fits s b = shaped b && eqb (register (from_body b)) 0 && eqb (trailer_site b) s.board.site && sound s
 
 -- no 17
 unfoldable pub same_board : Board → Board → Bool
 same_board a b = eqb a.site b.site && eqb a.profile b.profile && eqb a.n b.n && eqb a.tad b.tad
 
 -- 15, 16, 17
-unfoldable pub resume_refusal : List ℕ → Board → ℕ
-resume_refusal block b =
+unfoldable pub resume_refusal : Slave → List ℕ → Board → ℕ
+resume_refusal s block b =
     must (settings_kept b) 15
-    (must (block_fits block) 16
-    (must (same_board (held block).board b) 17
+    (must (block_fits s block) 16
+    (must (same_board s.board b) 17
     0))
 
--- a number leaves what a start of the board leaves, the cold slave or a fresh hunting one; else the slave that the block holds is left
+-- a number leaves what a start of the board leaves, the cold slave or a fresh hunting one; else that slave is left
+unfoldable pub resumed : Slave → List ℕ → Board → Result (Unit {0})
+resumed s block b = left (kept_by (resume_refusal s block b) (start_of b).slave s) (reply (resume_refusal s block b) tt)
+
+-- a block is read as the slave that it holds
 unfoldable pub resume_of : List ℕ → Board → Result (Unit {0})
-resume_of block b = left (kept_by (resume_refusal block b) (start_of b).slave (held block)) (reply (resume_refusal block b) tt)
+resume_of block b = resumed (held block) block b

@@ -1,12 +1,19 @@
--- The body of a saved block (document 01, "Saved block"): which part of a slave stands where.
+-- The body of a saved block (document 01, "Saved block"; document 02, Paper 12): which part of a slave stands where.
 use Rattle.std.specs.Prelude.{ℕ, List, [], ◌∷◌, ◌++◌, get_or}
 use Rattle.wire.specs.BigEndian.{be16_at, be32_at, bytes16, bytes32}
 use Rattle.wire.specs.Put.{put_at}
 use Rattle.wire.specs.Signed.{signed16, signed32, bits16, bits32}
+use Rattle.state.specs.Slave.{most_coasted}
 use Rattle.state.specs.declared.Slave.{Slave}
 
-abbrev pub body_length : ℕ
-body_length = 30
+-- the body that save writes, and the old one, of document 01, which ends before byte 30
+pub data Body : Type 0 where
+  whole : Body
+  old : Body
+
+abbrev pub length_of : Body → ℕ
+length_of whole = 31
+length_of old = 30
 
 -- a field: one, two or four bytes from this one on, big-endian
 pub data Field : Type 0 where
@@ -20,13 +27,17 @@ slave_of at =
     record {
       board = record { profile = at (byte 1); n = at (pair 2); site = at (pair 4); tad = at (word 6) };
       settings = record { od = signed16 (at (pair 10)); frequency = signed32 (at (word 12)); power = at (pair 16) };
-      count = record { phase = at (byte 0); next = at (pair 18); index = at (byte 21) };
+      count = record { phase = at (byte 0); next = at (pair 18); index = at (byte 21); coasted = at (byte 30) };
       waiting = record { pending = at (byte 20); sts = at (word 22); md = at (word 26) };
     }
 
--- and the fields in order, with the bits that are written to them
-abbrev pub body_fields : Slave → List (Field × ℕ)
-body_fields s =
+-- and the fields in order, with the bits that are written to them; the last one is not in an old body
+abbrev pub last_field : Body → Slave → List (Field × ℕ)
+last_field whole s = (byte 30, s.count.coasted) ∷ []
+last_field old s = []
+
+abbrev pub body_fields : Body → Slave → List (Field × ℕ)
+body_fields body s =
     (byte 0, s.count.phase)
     ∷ (byte 1, s.board.profile)
     ∷ (pair 2, s.board.n)
@@ -40,7 +51,7 @@ body_fields s =
     ∷ (byte 21, s.count.index)
     ∷ (word 22, s.waiting.sts)
     ∷ (word 26, s.waiting.md)
-    ∷ []
+    ∷ last_field body s
 
 -- the number that a field of some bytes spells, and a number's bytes in a field
 abbrev pub number_in : List ℕ → Field → ℕ
@@ -58,12 +69,20 @@ abbrev pub written : List (Field × ℕ) → List ℕ
 written [] = []
 written (f ∷ fs) = bytes_in f.0 f.1 ++ written fs
 
--- the slave in some bytes that begin with a body, and the body of a slave
-unfoldable pub slave_in : List ℕ → Slave
-slave_in b = slave_of (number_in b)
+-- the slave as a body has it: what an old one does not have is 255
+abbrev pub coasted_by : Body → ℕ → ℕ
+coasted_by whole coasted = coasted
+coasted_by old coasted = most_coasted
 
-unfoldable pub body_of : Slave → List ℕ
-body_of s = written (body_fields s)
+abbrev pub had_in : Body → Slave → Slave
+had_in body s = record s { count = record s.count { coasted = coasted_by body s.count.coasted } }
+
+-- the slave in some bytes that begin with a body, and the body of a slave
+unfoldable pub slave_in : Body → List ℕ → Slave
+slave_in body b = had_in body (slave_of (number_in b))
+
+unfoldable pub body_of : Body → Slave → List ℕ
+body_of body s = written (body_fields body s)
 
 -- some bytes with fields put over them, each at its place
 abbrev pub first_byte : Field → ℕ

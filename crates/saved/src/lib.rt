@@ -1,26 +1,28 @@
-// The saved block (document 01, "Saved block"): a slave saved into a lent buffer, and resumed from any bytes on a board.
+// The saved block (document 01, "Saved block"; document 02, Paper 12): a slave saved into a lent buffer, and resumed from any bytes on a board.
 #![tactic(auto)]
 
-ghost use Rattle.std.specs.Prelude.{◌≡◌, true, false, MatchOption};
+ghost use Rattle.std.specs.Prelude.{◌≡◌, ◌-◌, true, false, length, get_or, MatchOption};
 ghost use Rattle.wire.specs.Reply.{must, reply, reply_of};
 ghost use Rattle.slave.specs.Answer.{left};
-ghost use Rattle.saved.specs.Layout.{body_fields, put_all, slave_in};
-ghost use Rattle.saved.specs.Block.{save_of, saved_output, trailer_site, shaped, from_body, held, block_fits, same_board, resume_of};
+ghost use Rattle.saved.specs.Layout.{whole, body_fields, put_all, coasted_by, slave_in};
+ghost use Rattle.saved.specs.Block.{trailer_length, save_of, saved_output, trailer_site, body_at, shaped, from_body, held, block_fits, same_board, resume_of};
 
 use addressing::Settings;
-use state::{Board, Count, Slave, Waiting};
+use state::{Board, Count, MOST_COASTED, Slave, Waiting};
 use wire::Refusal;
 
-// The bytes of a body, of a trailer, and of the block that a save writes.
-const BODY_LENGTH: usize = 30;
+// The bytes of a body, of a trailer, and of the block that a save writes; and of the block that has document 01's body, without byte 30.
+const BODY_LENGTH: usize = 31;
 
 const TRAILER_LENGTH: usize = 8;
 
 const BLOCK_LENGTH: usize = BODY_LENGTH + TRAILER_LENGTH;
 
-// Puts a slave's body over the first bytes. The places are document 01's.
+const OLD_BLOCK_LENGTH: usize = 30 + TRAILER_LENGTH;
+
+// Puts a slave's body over the first bytes. The places are the papers'.
 fn put_body(out: &mut [u8], s: Slave)
-    ensures { out.new ≡ put_all out.old (body_fields s) }
+    ensures { out.new ≡ put_all out.old (body_fields whole s) }
 {
     wire::put(out, 0, &[s.count.phase]);
     wire::put(out, 1, &[s.board.profile]);
@@ -35,6 +37,7 @@ fn put_body(out: &mut [u8], s: Slave)
     wire::put(out, 21, &[s.count.index]);
     wire::put(out, 22, &s.waiting.sts.to_be_bytes());
     wire::put(out, 26, &s.waiting.md.to_be_bytes());
+    wire::put(out, 30, &[s.count.coasted]);
 }
 
 // Saves a slave into the first bytes of a lent buffer; a refusal leaves it as it was.
@@ -56,10 +59,20 @@ pub fn save(s: Slave, out: &mut [u8]) -> Result<(), Refusal>
     Ok(())
 }
 
-// The slave whose body these bytes begin with. The places are document 01's, as in put_body.
+// Byte 30, of bytes from a body through its block's end. An old body does not have it, and is read with 255.
+fn coasted_in(b: &[u8]) -> u8
+    ensures { result ≡ coasted_by (body_at (length b.now - trailer_length)) (get_or b.now 30 0) }
+{
+    if b.len() == OLD_BLOCK_LENGTH {
+        return MOST_COASTED;
+    }
+    wire::byte_at(b, 30)
+}
+
+// The slave whose block these bytes are, from its body on. The places are the papers', as in put_body.
 #[tactic(auto, unfolding(crate::specs::Layout::slave_in))]
 fn slave_in(b: &[u8]) -> Slave
-    ensures { result ≡ slave_in b.now }
+    ensures { result ≡ slave_in (body_at (length b.now - trailer_length)) b.now }
 {
     Slave {
         board: Board {
@@ -77,6 +90,7 @@ fn slave_in(b: &[u8]) -> Slave
             phase: wire::byte_at(b, 0),
             next: wire::number16_at(b, 18),
             index: wire::byte_at(b, 21),
+            coasted: coasted_in(b),
         },
         waiting: Waiting {
             pending: wire::byte_at(b, 20),
@@ -95,17 +109,17 @@ fn site_and_body(block: &[u8]) -> Option<(u16, &[u8])>
     let distance = usize::from(wire::number16_at(trailer, 2));
     let start = front.len().checked_sub(distance)?;
     let rest = &block[start..];
-    // a distance below BODY_LENGTH, asked of the bytes: the compiler then knows that each part of the body lies within them
-    if rest.len() < BLOCK_LENGTH {
+    // a distance below an old body's length, asked of the bytes: the compiler then knows that each part of that body lies within them
+    if rest.len() < OLD_BLOCK_LENGTH {
         return None;
     }
     Some((wire::number16_at(trailer, 0), rest))
 }
 
 // The slave to resume: 16 where the shape, the check value, the trailer's site or a part of the slave is wrong, 17 for the block of another board.
-#[tactic(auto, unfolding(crate::specs::Block::block_fits, crate::specs::Block::same_board))]
+#[tactic(auto, using(crate::proofs::Shape::body_length_lem), unfolding(crate::specs::Block::block_fits, crate::specs::Block::same_board))]
 fn held(block: &[u8], b: Board) -> Result<Slave, Refusal>
-    ensures { reply_of result ≡ reply (must (block_fits block.now) 16 (must (same_board (held block.now).board b) 17 0)) (held block.now) }
+    ensures { reply_of result ≡ reply (must (block_fits (held block.now) block.now) 16 (must (same_board (held block.now).board b) 17 0)) (held block.now) }
 {
     let (site, body) = site_and_body(block).ok_or(Refusal::SavedBlock)?;
     let s = slave_in(body);
@@ -120,7 +134,7 @@ fn held(block: &[u8], b: Board) -> Result<Slave, Refusal>
 }
 
 // Resumes from any bytes on a board. A refusal leaves what a start of the board leaves: the cold slave (15) or a fresh hunting one (16, 17).
-#[tactic(auto, unfolding(crate::specs::Block::resume_refusal, crate::specs::Block::resume_of, slave::specs::Calls::start_of))]
+#[tactic(auto, unfolding(crate::specs::Block::resume_refusal, crate::specs::Block::resumed, crate::specs::Block::resume_of, slave::specs::Calls::start_of))]
 pub fn resume(s: &mut Slave, block: &[u8], b: Board) -> Result<(), Refusal>
     ensures { left s.new (reply_of result) ≡ resume_of block.now b }
 {
