@@ -93,7 +93,7 @@ static void feed_dvb(vikombare_slave *slave, const uint8_t *packet, uint32_t tic
 static void print_slave(const char *what, uint8_t number, const vikombare_slave *slave)
 {
     static const char *const phases[] = {"cold", "hunting", "locked"};
-    printf("%s: number %u, %s, next label %u\n", what, number, phases[slave->count.phase], slave->count.next);
+    printf("%s: number %u, %s, next label %u, coasted %u\n", what, number, phases[slave->count.phase], slave->count.next, slave->count.coasted);
 }
 
 static void dvb_board(void)

@@ -33,6 +33,13 @@
  * Where the number of packets that passed is not known, tell a gap of n. It drops the waiting notice, so that no mark is released before the next notice
  * is taken, and keeps the offset delay, frequency and power; until that notice do not rely on labels or untimed marks, nor on places until a notice
  * gives an index. Or start instead of resuming: a fresh slave hunts, and its offset delay, frequency and power are 0 until notices give them.
+ *
+ * AN UPDATE FROM BEFORE 4.0
+ * A block that was saved before 4.0 has 38 bytes and resumes as it did; `coasted`, which it does not have, is 255. Lend it without a byte behind it. Where it is
+ * not known which kind of block the memory holds, lend the first VIKOMBARE_OLD_BLOCK_BYTES, and where the answer is 16 the first VIKOMBARE_BLOCK_BYTES: of a
+ * block that is saved today the first 38 bytes give 16, always.
+ * The other way, firmware from before 4.0 resumes a block of today if all its 39 bytes are lent, and does not read `coasted`; where 38 are lent it answers
+ * 16 and hunts.
  */
 #ifndef VIKOMBARE_H
 #define VIKOMBARE_H
@@ -47,9 +54,10 @@ extern "C" {
 
 /* The version of this interface. MAJOR rises where a program has to be changed or compiled anew, MINOR where it has not: something is added, or a call
  * gives another value. 2.1: a time that was a whole second is 0. 3.0: a late mark says how late it is, and its kind in which unit. 3.1: to
- * vikombare_packet, a packet of no bytes is one that was lost; before, it was refused with 1. 3.2: vikombare_packet_within, vikombare_read_within, and 26. */
-#define VIKOMBARE_VERSION_MAJOR 3
-#define VIKOMBARE_VERSION_MINOR 2
+ * vikombare_packet, a packet of no bytes is one that was lost; before, it was refused with 1. 3.2: vikombare_packet_within, vikombare_read_within, and 26.
+ * 4.0: a slave counts the marks that it coasted over, in a byte that was padding, and a saved block has 39 bytes. */
+#define VIKOMBARE_VERSION_MAJOR 4
+#define VIKOMBARE_VERSION_MINOR 0
 
 /* An answer that must not be thrown away: it says what to do. The compiler warns where one is. */
 #if (defined(__cplusplus) && __cplusplus >= 201703L) || (defined(__STDC_VERSION__) && __STDC_VERSION__ >= 202311L)
@@ -83,7 +91,7 @@ enum {
     VIKOMBARE_REFUSED_COLD = 15,              /* the settings are outside the limits; or the slave handed in is cold, or none that an accepted call gives */
     VIKOMBARE_REFUSED_BLOCK = 16,             /* the saved block's shape, check value, phase or ranges; a pending notice in it that 13 refuses */
     VIKOMBARE_REFUSED_BOARD = 17,             /* a sound block, but of another site, profile, n or TAD */
-    VIKOMBARE_REFUSED_ROOM = 18,              /* the output has under 188 bytes (write) or 38 (save) */
+    VIKOMBARE_REFUSED_ROOM = 18,              /* the output has under 188 bytes (write) or 39 (save) */
     VIKOMBARE_REFUSED_FIELD = 19,             /* continuity above 15 or reserved above 32767 */
     VIKOMBARE_REFUSED_PROFILE = 20,           /* a numbers notice for a slave of profile 0 */
     VIKOMBARE_REFUSED_LIMIT = 26              /* the addressing field is above the limit that the call gives (vikombare_packet_within and
@@ -97,8 +105,10 @@ enum {
 #define VIKOMBARE_A110_SECOND 19392658 /* bit periods of the transport stream */
 
 #define VIKOMBARE_PACKET_BYTES 188
-#define VIKOMBARE_BLOCK_BYTES 38 /* of a saved block */
+#define VIKOMBARE_BLOCK_BYTES 39     /* of a saved block */
+#define VIKOMBARE_OLD_BLOCK_BYTES 38 /* of one that was saved before 4.0 */
 #define VIKOMBARE_INDEX_UNKNOWN 255
+#define VIKOMBARE_MOST_COASTED 255
 #define VIKOMBARE_LONGEST_ADDRESSING 163 /* bytes of an addressing field: the full board's limit */
 
 /* A time after the one-second pulse, a delay, or how late a mark was. The two units are two types, so that one is not taken for the other. */
@@ -151,9 +161,11 @@ enum {
 
 /* Where a slave stands in its cadence. */
 typedef struct {
-    uint8_t phase; /* VIKOMBARE_PHASE_COLD, ... */
-    uint16_t next; /* label of the next packet */
-    uint8_t index; /* index of the next mark, 0 to 19, or VIKOMBARE_INDEX_UNKNOWN */
+    uint8_t phase;   /* VIKOMBARE_PHASE_COLD, ... */
+    uint16_t next;   /* label of the next packet */
+    uint8_t index;   /* index of the next mark, 0 to 19, or VIKOMBARE_INDEX_UNKNOWN */
+    uint8_t coasted; /* marks passed since the last notice taken, those in gaps too, whatever became of each: up to VIKOMBARE_MOST_COASTED, which stands for
+                        every number from 255 on. The mark on a notice's own packet is not among them. A hunting slave has 255, a cold one 0 */
 } vikombare_count;
 
 /* The notice that waits for the next mark. */
@@ -272,6 +284,7 @@ VIKOMBARE_HOLDS(sizeof(vikombare_tick) == 8 && offsetof(vikombare_tick, count) =
 VIKOMBARE_HOLDS(sizeof(vikombare_board) == 12 && offsetof(vikombare_board, n) == 2 && offsetof(vikombare_board, tad) == 8);
 VIKOMBARE_HOLDS(sizeof(vikombare_settings) == 8 && offsetof(vikombare_settings, power) == 2 && offsetof(vikombare_settings, frequency) == 4);
 VIKOMBARE_HOLDS(sizeof(vikombare_count) == 6 && offsetof(vikombare_count, next) == 2 && offsetof(vikombare_count, index) == 4);
+VIKOMBARE_HOLDS(offsetof(vikombare_count, coasted) == 5);
 VIKOMBARE_HOLDS(sizeof(vikombare_waiting) == 12 && offsetof(vikombare_waiting, sts) == 4);
 VIKOMBARE_HOLDS(sizeof(vikombare_slave) == 40 && offsetof(vikombare_slave, settings) == 12);
 VIKOMBARE_HOLDS(offsetof(vikombare_slave, count) == 20 && offsetof(vikombare_slave, waiting) == 28);
@@ -319,7 +332,7 @@ VIKOMBARE_KEEP vikombare_reply vikombare_numbers(vikombare_slave *slave, const u
  * is unchanged. Order: 15 (leaves the cold slave). What a link card delivers as empty packets goes to the packet call, and is not told here again. */
 VIKOMBARE_KEEP uint8_t vikombare_gap(vikombare_slave *slave, uint16_t k);
 
-/* Saves the slave, which stays as it is, in the first 38 bytes of out; bytes after them are kept. Order: 15, 18; each keeps every byte of out. */
+/* Saves the slave, which stays as it is, in the first 39 bytes of out; bytes after them are kept. Order: 15, 18; each keeps every byte of out. */
 VIKOMBARE_KEEP uint8_t vikombare_save(vikombare_slave slave, uint8_t *out, size_t length);
 
 /* Resumes from a saved block, whose trailer is the last 8 bytes that are lent, on a board of these settings: lend what save wrote and nothing behind it.

@@ -28,6 +28,7 @@ int main(void)
     FIELD(count, phase);
     FIELD(count, next);
     FIELD(count, index);
+    FIELD(count, coasted);
     STRUCT(waiting);
     FIELD(waiting, pending);
     FIELD(waiting, sts);

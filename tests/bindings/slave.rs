@@ -14,7 +14,7 @@ c_struct! {
 
 c_struct! {
     /// Where the slave stands in its cadence.
-    CCount { phase: u8, next: u16, index: u8, }
+    CCount { phase: u8, next: u16, index: u8, coasted: u8, }
 }
 
 c_struct! {
@@ -28,11 +28,11 @@ c_struct! {
 
 impl From<Slave> for CSlave {
     fn from(s: Slave) -> CSlave {
-        let Slave { phase, profile, n, site, tad, od, frequency, power, next, pending, index, sts, md } = s;
+        let Slave { phase, profile, n, site, tad, od, frequency, power, next, pending, index, sts, md, coasted } = s;
         CSlave {
             board: CBoard { profile, n, site, tad },
             settings: CSettings { od, frequency, power },
-            count: CCount { phase, next, index },
+            count: CCount { phase, next, index, coasted },
             waiting: CWaiting { pending, sts, md },
         }
     }
@@ -43,8 +43,8 @@ impl From<CSlave> for Slave {
         let CSlave { board, settings, count, waiting } = s;
         let CBoard { profile, n, site, tad } = board;
         let CSettings { od, frequency, power } = settings;
-        let CCount { phase, next, index } = count;
+        let CCount { phase, next, index, coasted } = count;
         let CWaiting { pending, sts, md } = waiting;
-        Slave { phase, profile, n, site, tad, od, frequency, power, next, pending, index, sts, md }
+        Slave { phase, profile, n, site, tad, od, frequency, power, next, pending, index, sts, md, coasted }
     }
 }

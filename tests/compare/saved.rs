@@ -5,8 +5,9 @@ use crate::inputs::calls::{Board, Call, Lent, Outcome, Said};
 use crate::inputs::random::{hex, Random};
 use crate::other::basics::{dvb_cadences, second};
 use crate::other::faults::{self, Fault};
-use crate::other::saved::{body, sealed, BLOCK, BODY, TRAILER};
-use crate::other::slave::{Slave, COLD, LOCKED, UNKNOWN};
+use crate::inputs::streams::any_coasted;
+use crate::other::saved::{body, sealed, BLOCK, BODY, OLD_BLOCK, OLD_BODY, TRAILER};
+use crate::other::slave::{Slave, COLD, LOCKED, MOST, UNKNOWN};
 
 pub struct Blocks;
 
@@ -38,20 +39,26 @@ fn required() -> Cases {
     vec![
         ("save", "number", vec![0, 15, 18]),
         ("save", "into length", lengths.clone()),
-        ("save", "accepted into length", (38..=300).collect()),
+        ("save", "accepted into length", (39..=300).collect()),
         ("save", "in phase", vec![1, 2]),
+        ("save", "marks coasted", (0..=255).collect()),
         ("resume", "number", vec![0, 15, 16, 17]),
         ("resume", "from length", lengths),
         ("resume", "in phase", vec![1, 2]),
         ("resume", "in profile", vec![0, 1]),
         ("resume", "with pending", vec![0, 1]),
-        ("resume", "from byte", (0..=262).collect()),
+        ("resume", "from byte", (0..=261).collect()),
+        ("resume", "an old block from byte", (0..=262).collect()),
+        ("resume", "an old block in phase", vec![1, 2]),
         ("resume", "over a distance", (30..=292).collect()),
-        ("resume", "refused for its part", (0..13).collect()),
+        ("resume", "marks coasted, locked with pending", (0..=255).chain(1000..=1255).collect()),
+        ("resume", "refused for its part", (0..14).collect()),
+        ("resume", "refused hunting with marks coasted", (0..=254).collect()),
         ("resume", "refused in phase", vec![0, 3, 7, 255]),
         ("resume", "refused for a pending notice against 13", vec![0, 1]),
         ("resume", "refused over a distance", (0..30).chain(293..=65_535).collect()),
-        ("resume", "refused with a bit flipped", (0..304).collect()),
+        ("resume", "refused with a bit flipped", (0..312).collect()),
+        ("resume", "refused with a bit of an old block flipped", (0..304).collect()),
         ("resume", "refused for the trailer's site", vec![16]),
         ("resume", "another board's by setting", (0..4).collect()),
         ("resume", "15 for n (0), site (1), TAD (2)", (0..3).collect()),
@@ -71,6 +78,7 @@ impl Comparison<Blocks> {
         if number == 0 {
             self.saw("save", "accepted into length", lent.len() as i64);
             self.saw("save", "in phase", s.phase);
+            self.saw("save", "marks coasted", s.coasted);
         }
         Ok((number, after.0[from..from + lent.len()].to_vec()))
     }
@@ -84,6 +92,10 @@ impl Comparison<Blocks> {
             self.saw("resume", "in phase", resumed.slave.phase);
             self.saw("resume", "in profile", resumed.slave.profile);
             self.saw("resume", "with pending", resumed.slave.pending);
+            if resumed.slave.phase == LOCKED {
+                let Slave { pending, coasted, .. } = resumed.slave;
+                self.saw("resume", "marks coasted, locked with pending", 1_000 * i64::from(pending) + i64::from(coasted));
+            }
         }
         Ok(resumed)
     }
@@ -95,6 +107,15 @@ impl Comparison<Blocks> {
             return Err(self.differs(format!("resume({board:?}, {}) gives {resumed:?} and not {number}", hex(block))));
         }
         Ok(resumed)
+    }
+
+    /// A block that holds this slave, which is what its own board resumes.
+    fn resume_as(&mut self, s: Slave, block: &[u8]) -> Compared {
+        let resumed = self.resume_with(0, block, Board::of(&s))?;
+        if resumed.slave != s {
+            return Err(self.differs(format!("{} holds {s:?}, resumed {resumed:?}", hex(block))));
+        }
+        Ok(())
     }
 }
 
@@ -132,6 +153,7 @@ fn locked(r: &mut Random, board: Board) -> Slave {
     s.power = r.next() as u16;
     s.next = if r.one_in(2) { r.pick(&[0, 1, n - 1]) } else { r.below(usize::from(n)) as u16 };
     s.index = if profile == 1 && !r.one_in(3) { r.below(20) as u8 } else { UNKNOWN };
+    s.coasted = any_coasted(r);
     s
 }
 
@@ -168,6 +190,11 @@ fn block_of(s: &Slave) -> Vec<u8> {
     block(&[], &body(s), &[], s.site, BODY as u16)
 }
 
+/// The block that the release before this one saved, and the slave that it is now.
+fn old_block_of(s: &Slave) -> (Vec<u8>, Slave) {
+    (block(&[], &body(s)[..OLD_BODY], &[], s.site, OLD_BODY as u16), Slave { coasted: MOST, ..*s })
+}
+
 // ---- Sweeps
 
 impl Comparison<Blocks> {
@@ -184,17 +211,16 @@ impl Comparison<Blocks> {
                 let lent = self.random.bytes(length);
                 let (number, bytes) = self.save(s, &lent)?;
                 if number == 0 {
-                    let resumed = self.resume_with(0, &bytes[..BLOCK], Board::of(&s))?;
-                    if resumed.slave != s {
-                        return Err(self.differs(format!("saved {s:?}, resumed {resumed:?}")));
-                    }
+                    self.resume_as(s, &bytes[..BLOCK])?;
+                    // its first bytes, as many as an old block has
+                    self.resume_with(16, &bytes[..OLD_BLOCK], Board::of(&s))?;
                 }
             }
         }
         Ok(())
     }
 
-    /// Blocks of every length: cut at either end, with bytes in front, and no block at all.
+    /// Blocks of every length, of this release and the one before: cut at either end, with bytes in front, and no block at all.
     fn sweep_lengths(&mut self) -> Compared {
         for length in 0..=300_usize {
             for _ in 0..4 {
@@ -203,12 +229,21 @@ impl Comparison<Blocks> {
                 let noise = self.random.bytes(length);
                 self.resume(&noise, Board::of(&s))?;
                 self.resume(&vec![0; length], Board::of(&s))?;
+                let (old, old_slave) = old_block_of(&s);
+                if length < OLD_BLOCK {
+                    self.resume_with(16, &old[..length], Board::of(&s))?;
+                    self.resume_with(16, &old[OLD_BLOCK - length..], Board::of(&s))?;
+                } else {
+                    self.resume_as(old_slave, &[&noise[..length - OLD_BLOCK], &old].concat())?;
+                    self.saw("resume", "an old block from byte", (length - OLD_BLOCK) as i64);
+                    self.saw("resume", "an old block in phase", s.phase);
+                }
                 if length < BLOCK {
                     self.resume_with(16, &whole[..length], Board::of(&s))?;
                     self.resume_with(16, &whole[BLOCK - length..], Board::of(&s))?;
                 } else {
                     let behind = [&noise[..length - BLOCK], &whole].concat();
-                    self.resume_with(0, &behind, Board::of(&s))?;
+                    self.resume_as(s, &behind)?;
                     self.saw("resume", "from byte", (length - BLOCK) as i64);
                     let own = Board::of(&s);
                     for (setting, wrong) in
@@ -224,10 +259,12 @@ impl Comparison<Blocks> {
         Ok(())
     }
 
-    /// Every distance over 300 bytes, the check value right from where it leads, or from the first byte on where it leads out.
+    /// Every distance over 300 bytes, those about the two bodies with many slaves; the check value right from where it leads, or from the first byte on where
+    /// it leads out.
     fn sweep_distances(&mut self) -> Compared {
         let end = 300 - TRAILER;
-        for distance in 0..=65_535_u16 {
+        let about_bodies = (28..=33).flat_map(|distance| [distance; 60]);
+        for distance in (0..=65_535_u16).chain(about_bodies) {
             let s = sound(&mut self.random);
             let back = usize::from(distance);
             let mut bytes = self.random.bytes(end);
@@ -237,7 +274,7 @@ impl Comparison<Blocks> {
                 *to = *from;
             }
             let lent = [&bytes[..start], &sealed([&bytes[start..], &s.site.to_be_bytes(), &distance.to_be_bytes()].concat())].concat();
-            let number = if (BODY..=end).contains(&back) { 0 } else { 16 };
+            let number = if (OLD_BODY..=end).contains(&back) { 0 } else { 16 };
             self.resume_with(number, &lent, Board::of(&s))?;
             self.saw("resume", if number == 0 { "over a distance" } else { "refused over a distance" }, distance);
         }
@@ -257,6 +294,7 @@ impl Comparison<Blocks> {
                     self.part(1, Slave { profile: byte, ..s })?;
                     self.part(9, Slave { pending: byte, ..s })?;
                     self.part(10, Slave { index: byte, ..s })?;
+                    self.part(13, Slave { coasted: byte, ..s })?;
                 }
                 for pair in (0..=65_535).step_by(61).chain(dvb_cadences()).chain([0, 1, s.n - 1, s.n, s.n + 1, 65_535]) {
                     self.part(2, Slave { n: pair, ..s })?;
@@ -280,9 +318,13 @@ impl Comparison<Blocks> {
     fn part(&mut self, part: i64, s: Slave) -> Compared {
         let own = Board::of(&s);
         let board = if Slave::start(own.profile, own.n, own.site, own.tad).is_ok() { own } else { board(&mut self.random) };
+        self.resume(&old_block_of(&s).0, board)?;
         let resumed = self.resume(&block_of(&s), board)?;
         self.save(s, &[0xC3; BLOCK])?;
         if resumed.number() == 16 {
+            if part == 13 {
+                self.saw("resume", "refused hunting with marks coasted", s.coasted);
+            }
             self.saw("resume", "refused for its part", part);
             if part == 0 {
                 self.saw("resume", "refused in phase", s.phase);
@@ -323,18 +365,22 @@ impl Comparison<Blocks> {
         Ok(())
     }
 
-    /// Every bit of a saved block flipped, of exactly its bytes and with others in front.
+    /// Every bit of a saved block flipped, of this release and the one before, of exactly its bytes and with others in front.
     fn sweep_bits(&mut self) -> Compared {
-        for round in 0..100 {
+        for round in 0..200 {
             let s = sound(&mut self.random);
-            let (_, saved) = self.save(s, &[0; BLOCK])?;
+            let (saved, whose) = if round < 100 {
+                (self.save(s, &[0; BLOCK])?.1, "refused with a bit flipped")
+            } else {
+                (old_block_of(&s).0, "refused with a bit of an old block flipped")
+            };
             let front = if round % 2 == 0 { Vec::new() } else { self.random.bytes(60) };
-            for bit in 0..8 * BLOCK {
+            for bit in 0..8 * saved.len() {
                 let mut flipped = [&front[..], &saved].concat();
                 flipped[front.len() + bit / 8] ^= 0x80 >> (bit % 8);
                 if front.is_empty() {
                     self.resume_with(16, &flipped, Board::of(&s))?;
-                    self.saw("resume", "refused with a bit flipped", bit as i64);
+                    self.saw("resume", whose, bit as i64);
                 } else {
                     self.resume(&flipped, Board::of(&s))?;
                 }
@@ -349,8 +395,9 @@ impl Comparison<Blocks> {
         let r = &mut self.random;
         let (ahead, between) = (r.below(40), if r.one_in(2) { 0 } else { r.below(60) });
         let (front, middle) = (r.bytes(ahead), r.bytes(between));
-        let distance = BODY + between;
-        let mut lent = block(&front, &body(&s), &middle, s.site, distance as u16);
+        let length = if r.one_in(2) { BODY } else { OLD_BODY };
+        let distance = length + between;
+        let mut lent = block(&front, &body(&s)[..length], &middle, s.site, distance as u16);
         let own = if r.one_in(8) { board(r) } else { Board::of(&s) };
         match r.below(8) {
             0 => {

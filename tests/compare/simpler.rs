@@ -88,7 +88,8 @@ fn simpler_slaves(s: &Slave) -> Vec<Slave> {
     let settings = offsets(s.od).map(|od| Slave { od, ..*s }).chain(pairs(s.power).map(|power| Slave { power, ..*s }));
     let unset = (s.frequency != 0).then_some(Slave { frequency: 0, ..*s });
     let unknown = (s.index != UNKNOWN).then_some(Slave { index: UNKNOWN, ..*s });
-    let settled = settings.chain(unset).chain(unknown);
+    let coasted = pairs(s.coasted.into()).map(|coasted| Slave { coasted: coasted as u8, ..*s });
+    let settled = settings.chain(unset).chain(unknown).chain(coasted);
     boards.chain(times).chain(settled).chain(pairs(s.next).map(|next| Slave { next, ..*s })).collect()
 }
 

@@ -157,6 +157,15 @@ pub fn any_field(r: &mut Random, site: u16) -> Vec<u8> {
     }
 }
 
+/// Marks coasted, often about the most.
+pub fn any_coasted(r: &mut Random) -> u8 {
+    if r.one_in(2) {
+        r.pick(&[0, 0, 1, 253, 254, 255])
+    } else {
+        r.next() as u8
+    }
+}
+
 /// A slave built from its parts, nearly always a sound one.
 pub fn any_slave(r: &mut Random) -> Slave {
     let profile = r.below(2) as u8;
@@ -178,13 +187,14 @@ pub fn any_slave(r: &mut Random) -> Slave {
         index: if profile == 0 || r.one_in(4) { UNKNOWN } else { r.below(20) as u8 },
         sts,
         md,
+        coasted: any_coasted(r),
         ..hunting
     }
 }
 
-/// The slave with one part changed; the part's place among the thirteen.
+/// The slave with one part changed; the part's place among the fourteen.
 pub fn change_part(r: &mut Random, slave: Slave) -> (usize, Slave) {
-    let (second, part) = (second(slave.profile), r.below(13));
+    let (second, part) = (second(slave.profile), r.below(14));
     let time = r.pick(&[1, second - 1, second, second + 1, 1 << 31, u32::MAX]);
     let mut s = slave;
     match part {
@@ -200,7 +210,8 @@ pub fn change_part(r: &mut Random, slave: Slave) -> (usize, Slave) {
         9 => s.pending = r.pick(&[0, 1, 2, 255]),
         10 => s.index = r.pick(&[0, 19, 20, 21, 128, 254, 255]),
         11 => s.sts = time,
-        _ => s.md = time,
+        12 => s.md = time,
+        _ => s.coasted = any_coasted(r),
     }
     (part, s)
 }

@@ -1,13 +1,17 @@
-//! The saved block: save and resume. From document 01, over the slave.
+//! The saved block: save and resume. From document 01 and document 02's Paper 12, over the slave.
 
 use super::basics::register;
 use super::faults::{rule, Fault::*};
-use super::slave::{Slave, COLD, LOCKED};
+use super::slave::{Slave, COLD, HUNTING, LOCKED, MOST};
 
 /// The bytes of a body, of a trailer, and of what save writes.
-pub const BODY: usize = 30;
+pub const BODY: usize = 31;
 pub const TRAILER: usize = 8;
-pub const BLOCK: usize = 38;
+pub const BLOCK: usize = 39;
+
+/// The same of the release that knew no marks coasted.
+pub const OLD_BODY: usize = 30;
+pub const OLD_BLOCK: usize = 38;
 
 /// A slave's parts in the body's order, big-endian.
 pub fn body(s: &Slave) -> [u8; BODY] {
@@ -23,7 +27,8 @@ pub fn body(s: &Slave) -> [u8; BODY] {
     body[18..20].copy_from_slice(&next.to_be_bytes());
     (body[20], body[21]) = (s.pending, s.index);
     body[22..26].copy_from_slice(&s.sts.to_be_bytes());
-    body[26..].copy_from_slice(&s.md.to_be_bytes());
+    body[26..30].copy_from_slice(&s.md.to_be_bytes());
+    body[30] = rule(s.coasted, SaveCoastedMost, MOST);
     body
 }
 
@@ -35,8 +40,8 @@ fn u32_at(b: &[u8], at: usize) -> u32 {
     u32::from_be_bytes([b[at], b[at + 1], b[at + 2], b[at + 3]])
 }
 
-/// The parts that 30 bytes say, whatever they are.
-fn parts(b: &[u8]) -> Slave {
+/// The parts that 30 bytes say, whatever they are, and these marks coasted.
+fn parts(b: &[u8], coasted: u8) -> Slave {
     let (od, frequency) = (u16_at(b, 10) as i16, u32_at(b, 12) as i32);
     Slave {
         phase: b[0],
@@ -52,6 +57,7 @@ fn parts(b: &[u8]) -> Slave {
         index: b[21],
         sts: u32_at(b, 22),
         md: u32_at(b, 26),
+        coasted,
     }
 }
 
@@ -72,13 +78,13 @@ pub fn save_with(register: impl Fn(&[u8]) -> u32, s: &Slave, out: &mut [u8]) -> 
     let distance = rule(BODY, SaveOtherDistance, BLOCK) as u16;
     let mut block = [0; BLOCK];
     block[..BODY].copy_from_slice(&body(s));
-    block[30..32].copy_from_slice(&s.site.to_be_bytes());
-    block[32..34].copy_from_slice(&distance.to_be_bytes());
-    let check = register(&block[..34]);
-    block[34..].copy_from_slice(&check.to_be_bytes());
-    block[37] ^= rule(0, SaveCheckInverted, 0xFF);
+    block[31..33].copy_from_slice(&s.site.to_be_bytes());
+    block[33..35].copy_from_slice(&distance.to_be_bytes());
+    let check = register(&block[..35]);
+    block[35..].copy_from_slice(&check.to_be_bytes());
+    block[38] ^= rule(0, SaveCheckInverted, 0xFF);
     let cold = if s.sound() { Ok(()) } else { Err(15) };
-    let short = if out.len() < rule(BLOCK, SaveNeedsMore, BLOCK + 1) { Err(18) } else { Ok(()) };
+    let short = if out.len() < rule(rule(BLOCK, SaveNeedsMore, BLOCK + 1), SaveNeedsOld, OLD_BLOCK) { Err(18) } else { Ok(()) };
     let answer = rule(cold.and(short), SaveRoomFirst, short.and(cold));
     if answer.is_ok() || rule(false, SaveRefusedWrites, true) {
         let room = out.len().min(BLOCK);
@@ -90,19 +96,22 @@ pub fn save_with(register: impl Fn(&[u8]) -> u32, s: &Slave, out: &mut [u8]) -> 
     answer
 }
 
-/// The slave that a block holds, if it is a sound block.
-fn held(register: impl Fn(&[u8]) -> u32, block: &[u8]) -> Option<Slave> {
+/// The slave that a block holds, if it is a sound block; by the older release's reading, where every body is an old one.
+fn held(register: impl Fn(&[u8]) -> u32, block: &[u8], older: bool) -> Option<Slave> {
     let block = rule(block, BlockAtFront, &block[..block.len().min(BLOCK)]);
     let end = block.len().checked_sub(TRAILER)?;
     let site = u16_at(block, end);
     let distance = usize::from(u16_at(block, end + 2));
-    if distance < rule(BODY, DistanceOf29, BODY - 1) || distance > rule(usize::MAX, DistanceOf30Only, BODY) {
+    if distance < rule(rule(OLD_BODY, DistanceOf29, OLD_BODY - 1), OldRefused, BODY) || distance > rule(usize::MAX, DistanceOf31Only, BODY) {
         return None;
     }
     let start = rule(end.checked_sub(distance), DistanceCut, Some(end.saturating_sub(distance)))?;
-    let body = block.get(start..start + BODY)?;
-    let s = parts(body);
+    let old = older || distance <= rule(OLD_BODY, NewReadOld, BODY) || rule(false, LongReadOld, distance > BODY);
+    let body = block.get(start..start + if old { OLD_BODY } else { BODY })?;
+    let byte_30 = block[start + OLD_BODY];
+    let s = parts(body, if old { rule(rule(MOST, OldReadZero, 0), OldReadOn, byte_30) } else { byte_30 });
     let sound = rule(s.sound(), AnyPhase, s.phase != 0 && Slave { phase: LOCKED, ..s }.sound());
+    let sound = rule(sound, HuntingAnyCoasted, Slave { coasted: if s.phase == HUNTING { MOST } else { s.coasted }, ..s }.sound());
     let left = if rule(false, CheckOfBody, true) { register(&[body, &block[end + 4..]].concat()) } else { register(&block[start..]) };
     let check = rule(left == 0, CheckUnjudged, true);
     let same_site = rule(site == s.site, TrailerSiteUnjudged, true);
@@ -116,7 +125,16 @@ pub fn resume(block: &[u8], profile: u8, n: u16, site: u16, tad: u32) -> (Slave,
 
 /// Resume over a check register of the caller's choice.
 pub fn resume_with(register: impl Fn(&[u8]) -> u32, block: &[u8], profile: u8, n: u16, site: u16, tad: u32) -> (Slave, Result<(), u8>) {
-    let s = held(register, block);
+    resumed(held(register, block, false), block, profile, n, site, tad)
+}
+
+/// Resume by the release before this one, as document 01 alone has it. Its slaves count no marks; here they have the 255 that an old block is read with.
+pub fn older_resume(block: &[u8], profile: u8, n: u16, site: u16, tad: u32) -> (Slave, Result<(), u8>) {
+    resumed(held(register, block, true), block, profile, n, site, tad)
+}
+
+/// What a resume leaves and says of a block that holds this slave, or none.
+fn resumed(s: Option<Slave>, block: &[u8], profile: u8, n: u16, site: u16, tad: u32) -> (Slave, Result<(), u8>) {
     let Ok(fresh) = Slave::start(profile, n, site, tad) else {
         let left = rule(COLD, RefusedSettingsKept, Slave::hunting(profile, n, site, tad));
         return (left, Err(if s.is_none() { rule(15, SettingsLast, 16) } else { 15 }));
@@ -128,9 +146,9 @@ pub fn resume_with(register: impl Fn(&[u8]) -> u32, block: &[u8], profile: u8, n
             || rule(s.tad != tad, TadUnjudged, false)
     };
     match s {
-        None if block.len() < BLOCK => (fresh, Err(rule(16, ShortAsOther, 17))),
+        None if block.len() < OLD_BLOCK => (fresh, Err(rule(16, ShortAsOther, 17))),
         None => {
-            let said = parts(&block[block.len() - BLOCK..]);
+            let said = parts(&block[block.len() - OLD_BLOCK..], MOST);
             let left = rule(fresh, RefusedBlockHunts, Slave { tad: said.tad, ..fresh });
             (left, Err(rule(16, OtherBoardFirst, if other(&said) { 17 } else { 16 })))
         }

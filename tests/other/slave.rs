@@ -1,5 +1,5 @@
 //! The slave: start, packet, numbers notice and gap, and which slaves count as cold.
-//! From document 01 and document 02's Papers 5 and 9, over the basics. An error is the number that refuses the whole call.
+//! From document 01 and document 02's Papers 5, 9 and 12, over the basics. An error is the number that refuses the whole call.
 
 use super::basics::{self, over_limit, second, Settings, Times, A110_SECOND, DVB_SECOND, FULL};
 use super::faults::{rule, Fault::*};
@@ -12,7 +12,10 @@ pub const LOCKED: u8 = 2;
 /// The index that is not known.
 pub const UNKNOWN: u8 = 255;
 
-/// The saved body's parts in its order. `next` is the next packet's label, `index` the next mark's.
+/// The marks coasted are counted up to here.
+pub const MOST: u8 = 255;
+
+/// The saved body's parts in its order. `next` is the next packet's label, `index` the next mark's, `coasted` the marks since the last notice taken.
 #[derive(Clone, Copy, Debug, PartialEq)]
 pub struct Slave {
     pub phase: u8,
@@ -28,11 +31,12 @@ pub struct Slave {
     pub index: u8,
     pub sts: u32,
     pub md: u32,
+    pub coasted: u8,
 }
 
 /// What 15 leaves.
 pub const COLD: Slave =
-    Slave { phase: 0, profile: 0, n: 0, site: 0, tad: 0, od: 0, frequency: 0, power: 0, next: 0, pending: 0, index: UNKNOWN, sts: 0, md: 0 };
+    Slave { phase: 0, profile: 0, n: 0, site: 0, tad: 0, od: 0, frequency: 0, power: 0, next: 0, pending: 0, index: UNKNOWN, sts: 0, md: 0, coasted: 0 };
 
 /// A packet's reply, where the whole call is not refused.
 #[derive(Clone, Copy, Debug, PartialEq)]
@@ -104,7 +108,7 @@ impl Slave {
 
     /// The fresh hunting slave of these settings.
     pub fn hunting(profile: u8, n: u16, site: u16, tad: u32) -> Slave {
-        Slave { phase: HUNTING, profile, n, site, tad, ..COLD }
+        Slave { phase: HUNTING, profile, n, site, tad, coasted: rule(MOST, CoastedNone, 0), ..COLD }
     }
 
     /// Whether a saved body may hold these parts; every other slave counts as cold.
@@ -114,7 +118,10 @@ impl Slave {
             return false;
         }
         match phase {
-            HUNTING => *self == Slave { power: rule(0, HuntingWithPower, power), ..Slave::hunting(profile, n, site, tad) },
+            HUNTING => {
+                let coasted = rule(MOST, HuntingCoasted, self.coasted);
+                *self == Slave { power: rule(0, HuntingWithPower, power), coasted, ..Slave::hunting(profile, n, site, tad) }
+            }
             LOCKED => self.locked_sound(),
             _ => rule(false, PhaseNotZero, phase != 0 && self.locked_sound()),
         }
@@ -131,6 +138,7 @@ impl Slave {
             _ => false,
         };
         self.next < rule(self.n, LabelOfN, self.n + 1)
+            && rule(true, PendingUncoasted, self.pending == 0 || self.coasted == 0)
             && rule((-0x80_0000..0x80_0000).contains(&self.frequency), FrequencyOf32Bits, true)
             && index_sound
             && notice_sound
@@ -202,6 +210,7 @@ impl Slave {
             if on_mark {
                 self.clear();
                 self.raise(rule(1, EmptyKeepsIndex, 0));
+                self.coast(rule(1, EmptyUncoasted, 0));
             }
         }
         if rule(false, EmptyKeepsNotice, true) {
@@ -253,6 +262,7 @@ impl Slave {
             return Ok(());
         }
         *self = rule(COLD, ColdKept, *self);
+        self.coasted = rule(self.coasted, ColdCoasted, MOST);
         Err(15)
     }
 
@@ -371,6 +381,7 @@ impl Slave {
                     }
                     self.index = rule(UNKNOWN, SlipKeepsIndex, self.index);
                 }
+                self.coasted = rule(self.coasted, CoastedBeforeMark, 0);
                 rule(accepted.label, SlipKeepsCount, if self.phase == LOCKED { self.next } else { accepted.label })
             }
             None if self.phase == LOCKED => self.next,
@@ -384,7 +395,7 @@ impl Slave {
             let kept = (self.pending, self.sts, self.md);
             (self.pending, self.sts, self.md) = rule(kept, NewNoticeReleased, (1, accepted.sts, accepted.md));
         }
-        let unraised = self.index;
+        let (unraised, coasted_before) = (self.index, self.coasted);
         let mark = if label == 0 { self.pass_mark(tick) } else { MarkPart::None };
         if rule(true, RefusalUncounted, !matches!(notice, NoticePart::Ignored(_))) {
             self.next = if label + 1 == self.n { 0 } else { label + 1 };
@@ -399,9 +410,15 @@ impl Slave {
             self.index = rule(self.index, UnknownEnters, accepted.index);
             self.phase = LOCKED;
             self.enter(accepted.settings);
+            let slipped = notice == NoticePart::Slip;
+            self.coasted = rule(0, CoastedBeforeMark, self.coasted);
+            self.coasted = rule(self.coasted, SlipCoasts, if slipped { coasted_before } else { 0 });
             if rule(true, FirstNoticeStays, self.pending == 0) {
                 (self.pending, self.sts, self.md) = (1, accepted.sts, accepted.md);
             }
+        }
+        if matches!(notice, NoticePart::Ignored(_)) {
+            self.coasted = rule(self.coasted, RefusedResets, 0);
         }
         Reply { label: Some(label), notice, turn, mark, place: self.place(label) }
     }
@@ -427,7 +444,20 @@ impl Slave {
             (self.sts, self.md) = rule((0, 0), ReleasedTimesLeft, (sts, md));
         }
         self.raise(1);
+        let counts = match mark {
+            MarkPart::Late(_) => rule(1, LateUncoasted, 0),
+            MarkPart::Released(_) => rule(1, ReleasedUncoasted, 0),
+            _ => rule(1, UntimedUncoasted, 0),
+        };
+        self.coast(counts);
         mark
+    }
+
+    /// So many marks more since the last notice taken, up to 255 (02, Paper 12).
+    fn coast(&mut self, marks: u32) {
+        let sum = u32::from(self.coasted) + marks;
+        let most = rule(255, CoastedTo254, 254);
+        self.coasted = rule(if sum < most { sum } else { most }, CoastedWraps, sum % 256) as u8;
     }
 
     /// Raises a known index by the marks passed, 19 to 0.
@@ -467,6 +497,7 @@ impl Slave {
             }
             let marks = 1 + (gap - to_mark - 1) / n;
             self.raise(rule(marks, GapRaisesOnce, 1));
+            self.coast(rule(rule(marks, GapCoastsOnce, 1), GapUncoasted, 0));
         } else if rule(false, GapDropsEarly, gap == to_mark && gap > 0) {
             self.clear();
         }

@@ -343,13 +343,13 @@ pub fn measure() {
 
 /// Save and resume of slaves with a notice that waits.
 fn saves(slaves: &[Slave]) {
-    let blocks: Vec<[u8; 38]> = slaves
+    let blocks: Vec<[u8; saved::BLOCK]> = slaves
         .iter()
         .map(|slave| {
-            let mut ours = [0; 38];
+            let mut ours = [0; saved::BLOCK];
             assert!(vikombare::save((*slave).into(), &mut ours) == 0, "{slave:?}");
             for call in [save, nibbles_save] {
-                let mut plain = [0; 38];
+                let mut plain = [0; saved::BLOCK];
                 assert!(call(slave, &mut plain).is_ok() && plain == ours, "{slave:?}");
             }
             ours
@@ -364,7 +364,7 @@ fn saves(slaves: &[Slave]) {
         assert!(resumed == [Change { slave: *slave, number: 0 }; 3], "{slave:?}");
     }
     let c_slaves = of_c(slaves);
-    let (mut first, mut second, mut third) = ([0; 38], [0; 38], [0; 38]);
+    let [mut first, mut second, mut third] = [[0; saved::BLOCK]; 3];
     let saved = vec![
         candidate("", |k| vikombare::save(c_slaves[k], black_box(&mut first))),
         candidate("", |k| save(&slaves[k], black_box(&mut second))),

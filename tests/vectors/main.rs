@@ -17,7 +17,7 @@ mod other;
 mod basics;
 mod slave;
 
-use bindings::answers::Reading;
+use bindings::answers::{Change, Reading};
 use bindings::probe;
 use bindings::vikombare::{Mark, Reply, Times};
 use inputs::calls::{self, Board, Call, Code, Form, Lent, Limit, Outcome, Said};
@@ -205,6 +205,14 @@ impl Vectors {
         let input = format!("resume at site {site} from {:?}", Hex(block.to_vec()));
         self.call(name, input, call, |outcome| numbered(outcome.number(), || String::from("resumed")));
     }
+
+    /// The same by the release before this one, of which there is the other implementation's reading alone: it prints that beside either.
+    fn older_resume(&mut self, name: &str, block: &[u8], site: u16) {
+        (self.slave, self.handed) = (COLD, None);
+        let outcome = Outcome::from(Change::from(other::saved::older_resume(block, 0, 2016, site, 0)));
+        let output = numbered(outcome.number(), || String::from("resumed"));
+        self.left(name, format!("resume at site {site} from {:?}", Hex(block.to_vec())), outcome, output);
+    }
 }
 
 // ---- Texts
@@ -281,7 +289,7 @@ fn changes(before: &Slave, after: &Slave) -> String {
     if after == before {
         return String::from("slave kept");
     }
-    let parts = |s: &Slave| -> [(&'static str, i64); 13] {
+    let parts = |s: &Slave| -> [(&'static str, i64); 14] {
         [
             ("phase", s.phase.into()),
             ("profile", s.profile.into()),
@@ -296,6 +304,7 @@ fn changes(before: &Slave, after: &Slave) -> String {
             ("index", s.index.into()),
             ("STS", s.sts.into()),
             ("MD", s.md.into()),
+            ("coasted", s.coasted.into()),
         ]
     };
     let changed = parts(before).into_iter().zip(parts(after)).filter(|(before, after)| before != after);

@@ -13,7 +13,9 @@ pub fn all(v: &mut Vectors) {
     steps(v);
     late(v);
     indexes(v);
+    coasting(v);
     saves(v);
+    releases(v);
 }
 
 fn starts(v: &mut Vectors) {
@@ -99,7 +101,7 @@ fn refusals(v: &mut Vectors) {
         ("refusal 13: MD 50, OD −51", notice(2015, 1_000, 50, &offset_entry(7, -51))),
     ];
     let hunting = Slave::hunting(0, 2016, 7, 0);
-    let due = Slave { phase: LOCKED, od: 5, pending: 1, sts: 9_500_000, md: 700_000, ..hunting };
+    let due = Slave { phase: LOCKED, od: 5, pending: 1, sts: 9_500_000, md: 700_000, coasted: 3, ..hunting };
     let numbers = Numbers { pointer: 0, sts: 1, md: 2, od: 0, index: UNKNOWN };
     for (which, slave) in [("site 7", hunting), ("a mark due", due)] {
         v.hand(which, slave);
@@ -129,6 +131,8 @@ fn refusals(v: &mut Vectors) {
         ("a frequency of 25 bits", Slave { frequency: 8_388_608, ..due }),
         ("a pending notice against 13", Slave { md: 50, od: -51, ..due }),
         ("a label of n", Slave { next: 2016, ..due }),
+        ("hunting with 254 marks coasted", Slave { coasted: 254, ..hunting }),
+        ("hunting with no marks coasted", Slave { coasted: 0, ..hunting }),
     ] {
         v.hand(name, cold);
         v.packet(&format!("15 before 1 and 3: {name}"), &plain.of_length(187), 10_000_000);
@@ -292,57 +296,134 @@ fn indexes(v: &mut Vectors) {
     v.packet("a late mark is passed", &null, 1_100);
 }
 
-// ---- The saved block, made by hand from document 01's table of the body. Each check value is a long division's remainder, as above.
+// ---- The saved block, made by hand from document 01's table of the body and document 02's Paper 12. Each check value is a long division's remainder, as above.
 
 /// A hunting slave of site 7, n 2016.
 #[rustfmt::skip]
-pub const HUNTING_BLOCK: [u8; 38] = [
+pub const HUNTING_BLOCK: [u8; 39] = [
     1, 0, 0x07, 0xE0, 0, 7,       // phase, profile, n, site
     0, 0, 0, 0,                   // TAD
     0, 0, 0, 0, 0, 0, 0, 0,       // OD, frequency, power
     0, 0, 0, 255,                 // next packet's label, pending, index of the next mark
     0, 0, 0, 0, 0, 0, 0, 0,       // STS, MD
-    0, 7, 0, 30,                  // trailer: site, distance
-    0xFD, 0x94, 0xA0, 0x42,       // check value
+    255,                          // marks coasted
+    0, 7, 0, 31,                  // trailer: site, distance
+    0x0F, 0x2E, 0xA7, 0x5D,       // check value
 ];
 
 /// The same slave locked, with a notice that waits.
 #[rustfmt::skip]
-const LOCKED_BLOCK: [u8; 38] = [
+const LOCKED_BLOCK: [u8; 39] = [
     2, 0, 0x07, 0xE0, 0, 7,
     0, 0, 0, 0,
     0xFF, 0xCD, 0xFF, 0xFE, 0x79, 0x60, 0x01, 0x2C,
     0x07, 0xDF, 1, 255,
     0x00, 0x98, 0x96, 0x7F, 0, 0, 0, 51,
-    0, 7, 0, 30,
-    0x9E, 0xBB, 0x22, 0x1A,
+    42,
+    0, 7, 0, 31,
+    0x60, 0x3F, 0xF0, 0xF3,
 ];
 
-fn changed(block: &[u8; 38], at: usize, value: u8, check: [u8; 4]) -> Vec<u8> {
+/// Both as the release before this one saved them, without byte 30.
+fn old(block: &[u8; 39], check: [u8; 4]) -> Vec<u8> {
+    [&block[..30], &[0, 7, 0, 30], &check].concat()
+}
+
+fn changed(block: &[u8], at: usize, value: u8, check: [u8; 4]) -> Vec<u8> {
     let mut block = block.to_vec();
     block[at] = value;
-    block[34..].copy_from_slice(&check);
+    let end = block.len() - 4;
+    block[end..].copy_from_slice(&check);
     block
 }
 
 fn saves(v: &mut Vectors) {
     let hunting = Slave::hunting(0, 2016, 7, 0);
-    let locked = Slave { phase: LOCKED, od: -51, frequency: -100_000, power: 300, next: 2015, pending: 1, sts: 9_999_999, md: 51, ..hunting };
+    let locked =
+        Slave { phase: LOCKED, od: -51, frequency: -100_000, power: 300, next: 2015, pending: 1, sts: 9_999_999, md: 51, coasted: 42, ..hunting };
     v.hand("site 7", hunting);
     v.save("refusal 18: 37 bytes", 37);
-    v.save("a hunting slave's block", 40);
+    v.save("refusal 18: 38 bytes", 38);
+    v.save("a hunting slave's block", 41);
     v.hand("cold", COLD);
-    v.save("15 before 18: a cold slave into 37 bytes", 37);
+    v.save("15 before 18: a cold slave into 38 bytes", 38);
     v.hand("a locked slave to save", locked);
-    v.save("a locked slave's block", 40);
+    v.save("a locked slave's block", 41);
+    v.save("in exactly its bytes", 39);
     v.resume("on its own board", &HUNTING_BLOCK, 7);
     v.resume("the locked one on its own board", &LOCKED_BLOCK, 7);
     v.resume("refusal 17: saved by site 7, board is 8", &HUNTING_BLOCK, 8);
-    let phase = changed(&HUNTING_BLOCK, 0, 7, [0xAE, 0x3E, 0x8D, 0xF9]);
+    let phase = changed(&HUNTING_BLOCK, 0, 7, [0xD0, 0xD7, 0x91, 0x83]);
     v.resume("refusal 16: phase 7, check right", &phase, 7);
     v.resume("16 before 17", &phase, 8);
     v.resume("15: site 0", &HUNTING_BLOCK, 0);
-    let delay = changed(&LOCKED_BLOCK, 29, 50, [0xD7, 0xB6, 0x45, 0x97]);
+    let delay = changed(&LOCKED_BLOCK, 29, 50, [0x7B, 0x17, 0xFD, 0x8B]);
     v.resume("16: pending with MD 50, OD −51", &delay, 7);
     v.resume("16: no bytes", &[], 7);
+}
+
+/// Blocks of two releases: what this one reads of the block before it, and what that one read of this one's (document 02, Paper 12).
+fn releases(v: &mut Vectors) {
+    let old_hunting = old(&HUNTING_BLOCK, [0xFD, 0x94, 0xA0, 0x42]);
+    let old_locked = old(&LOCKED_BLOCK, [0x9E, 0xBB, 0x22, 0x1A]);
+    v.resume("an old block, hunting", &old_hunting, 7);
+    v.resume("an old block, locked", &old_locked, 7);
+    v.resume("an old block behind another byte", &[&[42], &old_locked[..]].concat(), 7);
+    v.resume("16: an old block with a byte behind it", &[&old_locked[..], &[42]].concat(), 7);
+    v.resume("17: an old block on another board", &old_locked, 8);
+    v.resume("16: an old block, phase 7", &changed(&old_hunting, 0, 7, [0xAE, 0x3E, 0x8D, 0xF9]), 7);
+    v.resume("16: an old block, pending with MD 50, OD −51", &changed(&old_locked, 29, 50, [0xD7, 0xB6, 0x45, 0x97]), 7);
+    v.resume("16: an old block with its last bit of distance flipped", &changed(&old_locked, 33, 31, [0x9E, 0xBB, 0x22, 0x1A]), 7);
+    v.resume("16: hunting with 254 marks coasted", &changed(&HUNTING_BLOCK, 30, 254, [0x46, 0x23, 0xC0, 0xD0]), 7);
+    v.resume("16: hunting with none", &changed(&HUNTING_BLOCK, 30, 0, [0x3E, 0xCD, 0x81, 0x0E]), 7);
+    v.resume("locked with 254", &changed(&LOCKED_BLOCK, 30, 254, [0xC8, 0x47, 0x78, 0x9E]), 7);
+    let longer = [&LOCKED_BLOCK[..31], &[0x99, 0, 7, 0, 32, 0x39, 0x8B, 0xF4, 0x89]].concat();
+    v.resume("a distance of 32: byte 31 is skipped", &longer, 7);
+    v.resume("16: a block with its last bit of distance flipped", &changed(&LOCKED_BLOCK, 34, 30, [0x60, 0x3F, 0xF0, 0xF3]), 7);
+    v.resume("16: the first 38 bytes of a block", &LOCKED_BLOCK[..38], 7);
+    v.resume("16: the last 38 bytes of a block", &LOCKED_BLOCK[1..], 7);
+    v.older_resume("the release before this one, its own block", &old_locked, 7);
+    v.older_resume("the release before this one: byte 30 is not read", &LOCKED_BLOCK, 7);
+    v.older_resume("the release before this one: hunting with 254", &changed(&HUNTING_BLOCK, 30, 254, [0x46, 0x23, 0xC0, 0xD0]), 7);
+    v.older_resume("the release before this one, 16: the first 38 bytes", &LOCKED_BLOCK[..38], 7);
+}
+
+/// How many marks a slave coasted over since its last notice (document 02, Paper 12): every kind of mark counts, up to 255; a notice sets 0 behind its packet's
+/// own mark, a slip's too; a refused one does not.
+fn coasting(v: &mut Vectors) {
+    let (null, none) = (null(), Packet { text: String::from("no bytes"), bytes: Vec::new() });
+    let m = Numbers { pointer: 3, sts: 1, md: 700_000, od: 0, index: UNKNOWN };
+    v.start("coasting", 1, 624, 7, 0);
+    v.packet("hunting coasts on", &null, 5);
+    v.gap("hunting, over a gap", 65_535);
+    v.numbers("a first notice, label 620", &null, 5, m);
+    v.gap("65,535 packets, 106 marks", 65_535);
+    v.gap("65,535 packets, 105 marks", 65_535);
+    v.gap("43 marks: 254 in all", 26_806);
+    v.gap("up to the 255th", 623);
+    v.packet("the 255th", &null, 5);
+    v.gap("up to the 256th", 623);
+    v.packet("the 256th", &null, 5);
+    v.gap("and many more", 65_535);
+    v.numbers("12 takes none", &null, 5, Numbers { pointer: 624, ..m });
+    v.packet("2 counts no packet", &null.with(&[(0, 0x46)]), 5);
+    v.packet("4 takes none", &null.with(&[(1, 0x9F)]), 5);
+    v.numbers("a slip", &null, 5, Numbers { pointer: 1, ..m });
+    v.gap("up to its mark", 1);
+    v.packet("released, 1", &null, 5);
+    v.gap("up to the next mark", 623);
+    v.packet("4 on a mark, 2", &null.with(&[(1, 0x9F)]), 5);
+    v.gap("up to the next", 623);
+    v.packet("a lost mark, 3", &none, 5);
+    v.gap("one mark short of three more", 1_871);
+    v.packet("that mark, 6", &null, 5);
+    v.gap("up to another", 623);
+    v.numbers("a notice on the mark: 0 behind it", &null, 5, Numbers { pointer: 623, ..m });
+    v.gap("a cadence", 624);
+    v.numbers("a slip onto label 0: 0 behind it too", &null, 5, Numbers { pointer: 623, ..m });
+    v.gap("up to its mark again", 623);
+    v.packet("late, 1", &null, 700_002);
+    v.gap("a gap of 0 passes none", 0);
+    v.gap("a gap behind the mark passes none", 623);
+    v.gap("a gap of one passes one", 1);
 }

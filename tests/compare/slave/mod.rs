@@ -30,11 +30,17 @@ impl Subject for Calls {
         comparison.sweep_late()?;
         comparison.sweep_bits()?;
         comparison.sweep_pointers()?;
-        comparison.sweep_gaps()
+        comparison.sweep_gaps()?;
+        comparison.sweep_coasting()
     }
 }
 
 // ---- What must be reached
+
+/// Each number of marks coasted, in each of some kinds.
+fn coasted(kinds: i64) -> Vec<i64> {
+    (0..kinds).flat_map(|kind| (0..=255).map(move |coasted| 1_000 * kind + coasted)).collect()
+}
 
 fn required() -> Cases {
     let lengths: Vec<i64> = (0..=300).collect();
@@ -85,7 +91,10 @@ fn required() -> Cases {
         ("gap", "marks passed", (0..=106).collect()),
         ("gap", "k less the packets to a pending mark", vec![-1, 0, 1]),
         ("gap", "index raised to", indexes.clone()),
-        ("slave", "15 for its part", (0..13).collect()),
+        ("gap", "coasted on to less 255, over more marks than one", vec![-1, 0, 1]),
+        ("gap", "coasted over marks, from", (0..=255).collect()),
+        (EMPTY, "coasted over its mark, from", (0..=255).collect()),
+        ("slave", "15 for its part", (0..14).collect()),
     ];
     let plain = [100, 130, 200, 201, 202, 203, 230, 231, 232, 233];
     let noticed = [110, 111, 210, 211, 212, 213, 220, 221];
@@ -105,7 +114,9 @@ fn required() -> Cases {
             list.push((whose, "slip onto label 0 with pending", vec![0, 1]));
             list.push((whose, "slip elsewhere with pending", vec![0, 1]));
             list.push((whose, "slip from a counted", vec![0, 1]));
+            list.push((whose, "coasted before it, taken off the mark (0), on it (1), slip off (2), on (3)", coasted(4)));
         }
+        list.push((whose, "coasted over a mark untimed (0), late (1), released (2), from", coasted(3)));
         if profile == 1 {
             list.push((whose, "index raised from", indexes.clone()));
             list.push((whose, "M/H place before index", indexes.clone()));

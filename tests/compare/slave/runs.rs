@@ -113,7 +113,14 @@ impl Comparison<Calls> {
             if slave.phase == LOCKED {
                 let [n, next, k] = [slave.n, slave.next, k].map(i64::from);
                 let to_mark = (n - next) % n;
-                self.saw("gap", "marks passed", (next + k + n - 1) / n - (next + n - 1) / n);
+                let marks = (next + k + n - 1) / n - (next + n - 1) / n;
+                self.saw("gap", "marks passed", marks);
+                if marks > 0 {
+                    self.saw("gap", "coasted over marks, from", slave.coasted);
+                }
+                if marks > 1 {
+                    self.saw("gap", "coasted on to less 255, over more marks than one", i64::from(slave.coasted) + marks - 255);
+                }
                 if slave.pending == 1 {
                     self.saw("gap", "k less the packets to a pending mark", k - to_mark);
                 }
@@ -138,6 +145,7 @@ impl Comparison<Calls> {
             self.saw(EMPTY, "on the mark (10) with pending (1)", 10 * passed + i64::from(before.pending));
             if before.next == 0 {
                 self.saw(EMPTY, "on the mark with index", before.index);
+                self.saw(EMPTY, "coasted over its mark, from", before.coasted);
             }
             if before.next == before.n - 1 {
                 self.saw(EMPTY, "before the mark with pending", before.pending);
@@ -208,6 +216,20 @@ impl Comparison<Calls> {
             self.saw(whose, "emission", reply.mark.times.emission);
             self.saw(whose, "modulation", reply.mark.times.modulation);
             self.saw(whose, "released at tick", tick);
+        }
+        if before.phase == LOCKED {
+            let (coasted, slip, on_mark) = (i64::from(before.coasted), i64::from(reply.notice == 2), i64::from(reply.label == 0));
+            match reply.notice {
+                1 | 2 => self.saw(
+                    whose,
+                    "coasted before it, taken off the mark (0), on it (1), slip off (2), on (3)",
+                    1_000 * (2 * slip + on_mark) + coasted,
+                ),
+                _ if mark != 0 => {
+                    self.saw(whose, "coasted over a mark untimed (0), late (1), released (2), from", 1_000 * (i64::from(mark) - 1) + coasted);
+                }
+                _ => {}
+            }
         }
         if mark != 0 && before.index != UNKNOWN && reply.notice != 2 {
             self.saw(whose, "index raised from", before.index);

@@ -22,6 +22,14 @@ fn kinds() -> [Slave; 6] {
         .unwrap()
 }
 
+/// The MIP with another pointer.
+fn at_pointer(mip: &[u8], pointer: u16) -> Vec<u8> {
+    let mut packet = mip.to_vec();
+    packet[6..8].copy_from_slice(&pointer.to_be_bytes());
+    notices::reseal(&mut packet);
+    packet
+}
+
 /// A tick at which the due mark of `kinds` is in time.
 const IN_TIME: u32 = 9_900_000;
 
@@ -243,12 +251,10 @@ impl Comparison<Calls> {
     /// Every pointer, and every index.
     pub fn sweep_pointers(&mut self) -> Compared {
         for slave in kinds() {
-            let (mut mip, numbers) = self.notices(&slave);
+            let (mip, numbers) = self.notices(&slave);
             for pointer in 0..=65_535_u16 {
                 if slave.profile == 0 {
-                    mip[6..8].copy_from_slice(&pointer.to_be_bytes());
-                    notices::reseal(&mut mip);
-                    self.packet(slave, &mip, IN_TIME)?;
+                    self.packet(slave, &at_pointer(&mip, pointer), IN_TIME)?;
                 } else {
                     self.numbers(slave, &mip, IN_TIME, &Numbers { pointer, ..numbers })?;
                 }
@@ -259,6 +265,44 @@ impl Comparison<Calls> {
                         self.numbers(Slave { index: own, ..slave }, &mip, IN_TIME, &Numbers { pointer, index, ..numbers })?;
                     }
                 }
+            }
+        }
+        Ok(())
+    }
+
+    /// Every number of marks coasted: over marks of each kind, with and without a notice on them, a slip, and gaps to and about 255.
+    pub fn sweep_coasting(&mut self) -> Compared {
+        for slave in kinds().into_iter().filter(|slave| slave.phase == LOCKED) {
+            let (mip, numbers) = self.notices(&slave);
+            let null = notices::null();
+            let mut damaged = mip.clone();
+            damaged[24] ^= 1;
+            // of another label, and of label 0
+            let [other, onto] = [numbers.pointer ^ 1, slave.n - 1].map(|pointer| (pointer, at_pointer(&mip, pointer)));
+            let late = if slave.profile == 0 { 200_001 } else { 10_200_001 };
+            for coasted in 0..=255 {
+                let slave = Slave { coasted, ..slave };
+                let untimed = Slave { next: 0, pending: 0, sts: 0, md: 0, ..slave };
+                let refused = Numbers { index: 20, ..numbers };
+                for tick in [IN_TIME, late] {
+                    for packet in [&mip, &null, &damaged, &other.1, &onto.1] {
+                        self.packet(slave, packet, tick)?;
+                    }
+                    for pointer in [numbers.pointer, other.0, onto.0] {
+                        self.numbers(slave, &null, tick, &Numbers { pointer, ..numbers })?;
+                    }
+                    self.numbers(slave, &null, tick, &refused)?;
+                }
+                self.packet(untimed, &null, IN_TIME)?;
+                self.packet(untimed, &damaged, IN_TIME)?;
+                self.numbers(untimed, &null, IN_TIME, &refused)?;
+                self.packet(Slave { next: 0, ..slave }, &[], IN_TIME)?;
+                for to in [1, 2, 254, 255, 256_u16] {
+                    let packets = to.saturating_sub(coasted.into()).saturating_mul(slave.n);
+                    self.gap(slave, packets)?;
+                    self.gap(slave, packets.saturating_add(1))?;
+                }
+                self.gap(slave, 65_535)?;
             }
         }
         Ok(())
