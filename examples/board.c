@@ -96,6 +96,15 @@ static void print_slave(const char *what, uint8_t number, const vikombare_slave 
     printf("%s: number %u, %s, next label %u, coasted %u\n", what, number, phases[slave->count.phase], slave->count.next, slave->count.coasted);
 }
 
+/* What a warm boot does with the first 39 bytes of its memory, which hold a block of today or, behind an update from before 4.0, one of 38 bytes. */
+static uint8_t warm_boot(vikombare_slave *slave, const uint8_t *kept)
+{
+    uint8_t number = vikombare_dvb_resume(slave, kept, VIKOMBARE_OLD_BLOCK_BYTES, CADENCE, SITE, TAD);
+    if (number == VIKOMBARE_REFUSED_BLOCK)
+        number = vikombare_dvb_resume(slave, kept, VIKOMBARE_BLOCK_BYTES, CADENCE, SITE, TAD);
+    return number;
+}
+
 static void dvb_board(void)
 {
     /* An offset of 50 steps for site 7: identifier, loop length, then tag 0, its length 4, and the offset. */
@@ -116,7 +125,7 @@ static void dvb_board(void)
     printf("save: number %u\n", vikombare_save(slave, block, sizeof block));
     number = vikombare_dvb_resume(&slave, block, sizeof block, CADENCE, SITE + 1, TAD);
     print_slave("resume on another board", number, &slave);
-    number = vikombare_dvb_resume(&slave, block, sizeof block, CADENCE, SITE, TAD);
+    number = warm_boot(&slave, block);
     print_slave("resume", number, &slave);
 
     notice_packet(packet, 2014, 100000, 700000, offset, sizeof offset);
@@ -138,6 +147,10 @@ static void dvb_board(void)
     number = vikombare_gap(&slave, 2012);
     print_slave("gap of 2012", number, &slave);
     feed_dvb(&slave, null, 899860);
+
+    /* No notice arrives for two cadences: the board coasts. */
+    number = vikombare_gap(&slave, 2 * CADENCE);
+    print_slave("gap of two cadences", number, &slave);
 
     /* Notices with 7 bytes of addressing field, for a board that handles 6 of them and for one that handles 7. */
     notice_packet(packet, 2014, 300000, 700000, offset, sizeof offset);

@@ -1,5 +1,6 @@
 /* Holds each name of include/vikombare.h to an input of its kind: a refusal by the example that document 01's table has for it, and the phases, the kinds
- * of mark and what becomes of a notice; how late a mark was, in each profile; and a reader's limit. The same file is C11 and C++11. */
+ * of mark and what becomes of a notice; how late a mark was, in each profile; a reader's limit; the marks coasted and the blocks of two releases. The same
+ * file is C11 and C++11. */
 #include <stdio.h>
 #include <string.h>
 
@@ -174,6 +175,41 @@ static void limits(void)
     HOLD(VIKOMBARE_REFUSED_SECTION_LENGTH, written(0, 0, 0, field, VIKOMBARE_LONGEST_ADDRESSING + 1));
 }
 
+/* A saved block of today and one from before 4.0, of a slave of N, SITE and no TAD that is locked and has a notice pending. */
+static void blocks(void)
+{
+    static const uint8_t today[BLOCK] = {
+        2,    0,    0x07, 0xE0, 0,    SITE, 0,    0,  0,  0, 0xFF, 0xCD, 0xFF, 0xFE, 0x79, 0x60, 0x01, 0x2C, 0x07, 0xDF,
+        1,    0xFF, 0x00, 0x98, 0x96, 0x7F, 0,    0,  0,  51, /* and the marks coasted */
+        42,   0,    SITE, 0,    31,   0x60, 0x3F, 0xF0, 0xF3,
+    };
+    uint8_t earlier[VIKOMBARE_OLD_BLOCK_BYTES];
+    static const uint8_t earlier_trailer[] = {0, SITE, 0, 30, 0x9E, 0xBB, 0x22, 0x1A};
+    vikombare_slave slave;
+    vikombare_reply arrived;
+
+    HOLD(VIKOMBARE_REFUSED_COLD, vikombare_dvb_start(&slave, N, 0, NONE));
+    hold("what a cold slave coasted", 0, slave.count.coasted);
+    HOLD(VIKOMBARE_ACCEPTED, vikombare_dvb_start(&slave, N, SITE, NONE));
+    HOLD(VIKOMBARE_MOST_COASTED, slave.count.coasted);
+    HOLD(VIKOMBARE_ACCEPTED, vikombare_dvb_resume(&slave, today, BLOCK, N, SITE, NONE));
+    hold("what the saved slave coasted", 42, slave.count.coasted);
+    arrived = heard(&slave, null, 5);
+    hold("label", N - 1, arrived.label);
+    arrived = heard(&slave, null, 5);
+    hold("label", 0, arrived.label);
+    hold("a mark more", 43, slave.count.coasted);
+    HOLD(VIKOMBARE_ACCEPTED, written(0, 9500000, 700000, null, 0));
+    HOLD(VIKOMBARE_NOTICE_SLIP, heard(&slave, mip, 5).notice);
+    hold("behind a notice", 0, slave.count.coasted);
+    memcpy(earlier, today, 30);
+    memcpy(earlier + 30, earlier_trailer, sizeof earlier_trailer);
+    HOLD(VIKOMBARE_ACCEPTED, vikombare_dvb_resume(&slave, earlier, VIKOMBARE_OLD_BLOCK_BYTES, N, SITE, NONE));
+    HOLD(VIKOMBARE_MOST_COASTED, slave.count.coasted);
+    HOLD(VIKOMBARE_REFUSED_BLOCK, vikombare_dvb_resume(&slave, today, VIKOMBARE_OLD_BLOCK_BYTES, N, SITE, NONE));
+    HOLD(VIKOMBARE_PHASE_HUNTING, slave.count.phase);
+}
+
 int main(void)
 {
     memset(null, 0xFF, PACKET);
@@ -183,6 +219,7 @@ int main(void)
     refusals();
     kinds();
     limits();
+    blocks();
     if (wrong == 0)
         printf("%d answers are as named\n", tried);
     return wrong != 0;
