@@ -1,9 +1,9 @@
 -- Small runs, computed over the definitions: the premises of demand 3 can be met, marks are released, and what it does not claim can be wrong.
-use mathlib.Core.Path.{◌≡◌, refl}
+use mathlib.Core.Path.{◌≡◌, refl, ap, ◌∙◌}
 use mathlib.Core.Bool.{Bool, true, false, cond}
 use mathlib.Core.List.{List, [], ◌∷◌}
 use mathlib.Core.Option.{Option, none, some}
-use Prim.Native.Nat.{ℕ, ◌+◌, ◌*◌, ◌/◌, ◌%◌}
+use Prim.Native.Nat.{ℕ, ◌+◌, ◌*◌, ◌/◌, ◌%◌, min}
 use native.Mathlib.Omega.{arith}
 use lib.Dec.{eqb, lit≤}
 use lib.IntN.{ℤ, pos, negsuc}
@@ -32,9 +32,11 @@ use Rattle.run.specs.Run.{hear, leave, slave_after, begun, places, Run}
 use Rattle.run.specs.Claim.{told_exactly, Timed}
 use Rattle.run.specs.Late.{Lengthened, mark_behind, Held}
 use Rattle.run.specs.Card.{by_gaps, ToldRun}
+use Rattle.run.specs.Coasting.{hears, marks_over, NoneHeard}
 use Rattle.run.proofs.Sentences.{sentences}
 use Rattle.run.proofs.Card.{all_told_agree}
 use Rattle.run.proofs.Late.{mended}
+use Rattle.run.proofs.Coasting.{coasting}
 
 -- profile 1; in each cadence a notice at label 620. The first mark is after the pulse, by 42 units
 abbrev sts : ℕ → ℕ
@@ -318,6 +320,28 @@ told_in_place = (
 pub behind_card : Timed 624 19_392_658 A 624 42
 unfolding hear leave start_of packet_of numbers_of sound settings_kept admits second parts_fit hunting_fits is_unset is_uncounted is_zero locked_fits frequency_fits index_fits waiting_fits is_nothing delay_kept delay_fits delay_fits_a110 within arrival_refusal carries taken_refusal limited judge_arrived judge_given step_of counted passed unheard took mark_at release_at due_of wrap link_delay gapped slave_after
 behind_card = ((all_told_agree A).times g card_calls told_in_place.0 (take 4 card_calls) _ 624 _ refl 1 _ refl).1
+
+-- ---- coasting: behind the notice three packets are lost, the mark is released, an empty packet comes and a gap passes two marks more; then the next mark is
+-- lost with an empty packet, a notice is refused with 12, and a packet with 2
+
+abbrev noticed : Slave
+noticed = leave (begun g) (note 3 620 1 (pos 0))
+
+abbrev coasting_calls : List Call
+coasting_calls =
+    gap 3 ∷ plain 624 19_392_650 ∷ at 625 (packet in_place [] 5 longest_addressing) ∷ gap 1870 ∷ at 2496 (packet in_place [] 5 longest_addressing)
+    ∷ note 624 2497 5 (pos 0) ∷ at 2498 (packet in_place damaged 5 longest_addressing) ∷ []
+
+pub coasts :
+    (hears (begun g) (note 3 620 1 (pos 0)) ≡ true) × NoneHeard noticed coasting_calls × (marks_over noticed coasting_calls ≡ 4)
+    × (replies noticed coasting_calls
+    ≡ said (some 0) absent (in_bits 42 42 22 30) ∷ said none absent unmarked ∷ said none absent unmarked ∷ said (some 1) (ignored 12) unmarked ∷ refused 2 ∷ [])
+unfolding judged hear leave start_of packet_of numbers_of gap_of sound settings_kept admits second parts_fit hunting_fits is_unset is_uncounted is_zero locked_fits frequency_fits index_fits waiting_fits is_nothing delay_kept delay_fits delay_fits_a110 within arrival_refusal carries taken_refusal limited judge_arrived judge_given step_of counted passed unheard took mark_at mark_taken notice_taken release_at due_of wrap modulation link_delay gapped
+coasts = (refl, (refl, (refl, (refl, (refl, (refl, (refl, (refl, tt))))))), refl, refl)
+
+-- so its slave has coasted over four marks
+pub coasted_4 : (slave_after noticed coasting_calls).count.coasted ≡ 4
+coasted_4 = coasting.since (begun g) 620 _ coasting_calls coasts.0 coasts.1 ∙ ap (λ (m : ℕ). min m 255) coasts.2
 
 -- ---- late marks, and the same with MD longer by as much
 

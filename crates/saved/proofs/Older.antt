@@ -3,9 +3,10 @@
 --     old_resumes   so one that the release before this one saved resumes its slave, with 255 marks coasted
 --     older_reads   that release resumes a block of this one's, all of it lent, as the slave without the new part
 --     older_cut     and of its first 38 bytes, as many as that release's own blocks have, it gives 16 and hunts, as this one does
-use mathlib.Core.Path.{◌≡◌, refl, sym, ap, ◌∙◌}
+--     old_longer    so does an old block with one byte behind it: neither kind is taken for the other
+use mathlib.Core.Path.{◌≡◌, refl, ap, ◌∙◌}
 use mathlib.Core.Bool.{true, false}
-use mathlib.Core.List.{List, ◌++◌}
+use mathlib.Core.List.{List, [], ◌∷◌, ◌++◌}
 use Prim.Native.Nat.{ℕ}
 use native.Mathlib.Omega.{arith}
 use lib.ListN.{take}
@@ -17,7 +18,7 @@ use Rattle.state.specs.Sound.{is_uncounted, hunting_fits, locked_fits, parts_fit
 use Rattle.state.specs.declared.Board.{Board}
 use Rattle.state.specs.declared.Slave.{Slave}
 use Rattle.slave.specs.Answer.{left}
-use Rattle.saved.specs.Layout.{whole, old, length_of, body_of, had_in, slave_in}
+use Rattle.saved.specs.Layout.{whole, old, length_of, body_of, slave_in}
 use Rattle.saved.specs.Block.{block_length, covered_of, block_of, save_of, distance, body_at, shaped, from_body, held, block_fits, resumed, resume_of}
 use Rattle.saved.specs.Older.{older, older_block, older_held, older_resume_of}
 use Rattle.saved.proofs.Body.{Fits}
@@ -43,6 +44,19 @@ older_sound : (s : Slave) → sound s ≡ true → sound (older s) ≡ true
 unfolding sound parts_fit hunting_fits is_uncounted locked_fits
 older_sound s ok = grind (arith, nat_tests)
 
+-- bytes of another length than the block's: the distance that they have leads out, whatever slave it is
+unshaped : (b : List ℕ) (t : Slave) (board : Board) → settings_kept board ≡ true → shaped b ≡ false → resumed t b board ≡ left (hunting board) (refused 16)
+unfolding block_fits
+unshaped b t board kept e = resume_16 t b board kept (rw e refl)
+
+longer_shape : (s : Slave) (x : ℕ) → shaped (older_block s ++ x ∷ []) ≡ false
+unfolding shaped block_of covered_of body_of
+longer_shape s x = grind (arith, nat_tests)
+
+pub old_longer : (s : Slave) (x : ℕ) (b : Board) → settings_kept b ≡ true → resume_of (older_block s ++ x ∷ []) b ≡ left (hunting b) (refused 16)
+unfolding resume_of
+old_longer s x b kept = unshaped (older_block s ++ x ∷ []) (held (older_block s ++ x ∷ [])) b kept (longer_shape s x)
+
 module _ (s : Slave) (f : Fits s) (out : List ℕ) (e : (save_of s out).reply ≡ given tt) where
   pub older_reads : (front : List ℕ) → older_resume_of (front ++ block s f out e) s.board ≡ left (older s) (given tt)
   unfolding older_resume_of slave_in
@@ -59,12 +73,7 @@ module _ (s : Slave) (f : Fits s) (out : List ℕ) (e : (save_of s out).reply �
   unfolding shaped block_of covered_of body_of
   cut_shape = ap (λ (l : List ℕ). shaped (take (block_length old) l)) (saved_block s out e).1 ∙ grind (arith, nat_tests)
 
-  -- whatever slave it is read as
-  module _ (b : Board) (kept : settings_kept b ≡ true) where
-    cut_refused : (t : Slave) → resumed t cut b ≡ left (hunting b) (refused 16)
-    unfolding block_fits
-    cut_refused t = resume_16 t cut b kept (rw cut_shape refl)
-
-    pub older_cut : (older_resume_of cut b ≡ left (hunting b) (refused 16)) × (resume_of cut b ≡ left (hunting b) (refused 16))
-    unfolding older_resume_of resume_of
-    older_cut = (cut_refused (older_held cut), cut_refused (held cut))
+  pub older_cut : (b : Board) → settings_kept b ≡ true
+      → (older_resume_of cut b ≡ left (hunting b) (refused 16)) × (resume_of cut b ≡ left (hunting b) (refused 16))
+  unfolding older_resume_of resume_of
+  older_cut b kept = (unshaped cut (older_held cut) b kept cut_shape, unshaped cut (held cut) b kept cut_shape)
