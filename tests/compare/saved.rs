@@ -3,9 +3,9 @@
 use super::comparison::{Cases, Compared, Comparison, Subject};
 use crate::inputs::calls::{Board, Call, Lent, Outcome, Said};
 use crate::inputs::random::{hex, Random};
+use crate::inputs::streams::any_coasted;
 use crate::other::basics::{dvb_cadences, second};
 use crate::other::faults::{self, Fault};
-use crate::inputs::streams::any_coasted;
 use crate::other::saved::{body, sealed, BLOCK, BODY, OLD_BLOCK, OLD_BODY, TRAILER};
 use crate::other::slave::{Slave, COLD, LOCKED, MOST, UNKNOWN};
 

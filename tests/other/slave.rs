@@ -35,8 +35,22 @@ pub struct Slave {
 }
 
 /// What 15 leaves.
-pub const COLD: Slave =
-    Slave { phase: 0, profile: 0, n: 0, site: 0, tad: 0, od: 0, frequency: 0, power: 0, next: 0, pending: 0, index: UNKNOWN, sts: 0, md: 0, coasted: 0 };
+pub const COLD: Slave = Slave {
+    phase: 0,
+    profile: 0,
+    n: 0,
+    site: 0,
+    tad: 0,
+    od: 0,
+    frequency: 0,
+    power: 0,
+    next: 0,
+    pending: 0,
+    index: UNKNOWN,
+    sts: 0,
+    md: 0,
+    coasted: 0,
+};
 
 /// A packet's reply, where the whole call is not refused.
 #[derive(Clone, Copy, Debug, PartialEq)]

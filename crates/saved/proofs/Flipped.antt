@@ -95,9 +95,14 @@ module _ (s : Slave) (f : Fits s) (ok : sound s ≡ true) (i k : ℕ) (hi : i < 
 
       by : (b : Bool) → ltb 2 i ≡ b → ⊥
       by true h =
-          omega
-          (arith, small, profile_in far, others whole s f i k hi hk 2 (λ q. let x = ltb-true _ _ h in omega arith), high,
-          admitted_range s.board.profile s.board.n (admitted s.board (settings_kept_lem s ok)))
+          omega (
+            arith,
+            small,
+            profile_in far,
+            others whole s f i k hi hk 2 (λ q. let x = ltb-true _ _ h in omega arith),
+            high,
+            admitted_range s.board.profile s.board.n (admitted s.board (settings_kept_lem s ok)),
+          )
       by false h = let x = far_kept (ltb-false _ _ h) in omega arith
 
   misfit : block_fits (held saved) saved ≡ true → ⊥

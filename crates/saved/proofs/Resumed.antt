@@ -42,7 +42,7 @@ saved_block s out e =
     let none = (given_zero (save_refusal s (length out)) tt tt e).0 in (
       (passed (sound s) _ _ none).0,
       ap (take (block_length whole)) (kept_new _ out (block_of whole s ++ drop (block_length whole) out) none)
-      ∙ take_at (block_of whole s) (drop (block_length whole) out) (block_length whole) (block_length_lem whole s),
+          ∙ take_at (block_of whole s) (drop (block_length whole) out) (block_length whole) (block_length_lem whole s),
     )
 
 module _ (s : Slave) (f : Fits s) (out : List ℕ) (e : (save_of s out).reply ≡ given tt) where
