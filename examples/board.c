@@ -96,7 +96,7 @@ static void print_slave(const char *what, uint8_t number, const vikombare_slave 
     printf("%s: number %u, %s, next label %u, coasted %u\n", what, number, phases[slave->count.phase], slave->count.next, slave->count.coasted);
 }
 
-/* What a warm boot does with the first 39 bytes of its memory, which hold a block of today or, behind an update from before 4.0, one of 38 bytes. */
+/* What a warm boot does with the first 39 bytes of its memory, which hold a block of today or, after an update from before 4.0, one of 38 bytes. */
 static uint8_t warm_boot(vikombare_slave *slave, const uint8_t *kept)
 {
     uint8_t number = vikombare_dvb_resume(slave, kept, VIKOMBARE_OLD_BLOCK_BYTES, CADENCE, SITE, TAD);

@@ -31,13 +31,14 @@
  * it: labels are right, but the waiting notice's time goes to a later mark than its own, and in profile 1 the index is behind until a notice gives
  * it.
  * Where the number of packets that passed is not known, tell a gap of n. It drops the waiting notice, so that no mark is released before the next notice
- * is taken, and keeps the offset delay, frequency and power; until that notice do not rely on labels or untimed marks, nor on places until a notice
- * gives an index. Or start instead of resuming: a fresh slave hunts, and its offset delay, frequency and power are 0 until notices give them.
+ * is taken, and keeps the offset delay, frequency and power; until that notice do not rely on labels, on untimed marks or on `coasted`, nor on places until
+ * a notice gives an index. Or start instead of resuming: a fresh slave hunts, and its offset delay, frequency and power are 0 until notices give them.
  *
  * AN UPDATE FROM BEFORE 4.0
- * A block that was saved before 4.0 has 38 bytes and resumes as it did; `coasted`, which it does not have, is 255. Lend it without a byte behind it. Where it is
- * not known which kind of block the memory holds, lend the first VIKOMBARE_OLD_BLOCK_BYTES, and where the answer is 16 the first VIKOMBARE_BLOCK_BYTES: of a
+ * A block that was saved before 4.0 has 38 bytes and resumes as it did; `coasted`, which it does not have, is 255. Lend it without a byte behind it. Where it
+ * is not known which kind of block the memory holds, lend the first VIKOMBARE_OLD_BLOCK_BYTES, and where the answer is 16 the first VIKOMBARE_BLOCK_BYTES: of a
  * block that is saved today the first 38 bytes give 16, always.
+ * A vikombare_slave that firmware from before 4.0 left in memory has any byte in `coasted`, and would count on from it: do not hand it in, but resume or start.
  * The other way, firmware from before 4.0 resumes a block of today if all its 39 bytes are lent, and does not read `coasted`; where 38 are lent it answers
  * 16 and hunts.
  */
@@ -165,7 +166,8 @@ typedef struct {
     uint16_t next;   /* label of the next packet */
     uint8_t index;   /* index of the next mark, 0 to 19, or VIKOMBARE_INDEX_UNKNOWN */
     uint8_t coasted; /* marks passed since the last notice taken, those in gaps too, whatever became of each: up to VIKOMBARE_MOST_COASTED, which stands for
-                        every number from 255 on. The mark on a notice's own packet is not among them. A hunting slave has 255, a cold one 0 */
+                        every number from 255 on. The mark on that notice's own packet is not among them. A hunting slave has 255, and so has one that
+                        resumed from a block of before 4.0; a cold one has 0 */
 } vikombare_count;
 
 /* The notice that waits for the next mark. */

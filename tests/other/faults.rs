@@ -161,6 +161,7 @@ faults! {
         CoastedNone: "a start leaves no marks coasted",
         CoastedBeforeMark: "a notice sets the marks coasted to 0 before the mark on its packet",
         SlipCoasts: "a slip keeps the marks coasted",
+        TakenCoasts: "a notice taken without a slip keeps the marks coasted",
         RefusedResets: "a refused notice sets the marks coasted to 0",
         LateUncoasted: "a late mark is not coasted over",
         ReleasedUncoasted: "a released mark is not coasted over",

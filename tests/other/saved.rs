@@ -108,7 +108,7 @@ fn held(register: impl Fn(&[u8]) -> u32, block: &[u8], older: bool) -> Option<Sl
     let start = rule(end.checked_sub(distance), DistanceCut, Some(end.saturating_sub(distance)))?;
     let old = older || distance <= rule(OLD_BODY, NewReadOld, BODY) || rule(false, LongReadOld, distance > BODY);
     let body = block.get(start..start + if old { OLD_BODY } else { BODY })?;
-    let byte_30 = block[start + OLD_BODY];
+    let byte_30 = *block.get(start + OLD_BODY)?;
     let s = parts(body, if old { rule(rule(MOST, OldReadZero, 0), OldReadOn, byte_30) } else { byte_30 });
     let sound = rule(s.sound(), AnyPhase, s.phase != 0 && Slave { phase: LOCKED, ..s }.sound());
     let sound = rule(sound, HuntingAnyCoasted, Slave { coasted: if s.phase == HUNTING { MOST } else { s.coasted }, ..s }.sound());
@@ -148,7 +148,7 @@ fn resumed(s: Option<Slave>, block: &[u8], profile: u8, n: u16, site: u16, tad: 
     match s {
         None if block.len() < OLD_BLOCK => (fresh, Err(rule(16, ShortAsOther, 17))),
         None => {
-            let said = parts(&block[block.len() - OLD_BLOCK..], MOST);
+            let said = parts(&block[block.len().saturating_sub(BLOCK)..], MOST);
             let left = rule(fresh, RefusedBlockHunts, Slave { tad: said.tad, ..fresh });
             (left, Err(rule(16, OtherBoardFirst, if other(&said) { 17 } else { 16 })))
         }

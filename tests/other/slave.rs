@@ -427,6 +427,7 @@ impl Slave {
             let slipped = notice == NoticePart::Slip;
             self.coasted = rule(0, CoastedBeforeMark, self.coasted);
             self.coasted = rule(self.coasted, SlipCoasts, if slipped { coasted_before } else { 0 });
+            self.coasted = rule(self.coasted, TakenCoasts, if slipped { 0 } else { coasted_before });
             if rule(true, FirstNoticeStays, self.pending == 0) {
                 (self.pending, self.sts, self.md) = (1, accepted.sts, accepted.md);
             }

@@ -206,7 +206,7 @@ impl Vectors {
         self.call(name, input, call, |outcome| numbered(outcome.number(), || String::from("resumed")));
     }
 
-    /// The same by the release before this one, of which there is the other implementation's reading alone: it prints that beside either.
+    /// The same by the release before this one, of which there is no code here: the other implementation's reading of it stands in both runs.
     fn older_resume(&mut self, name: &str, block: &[u8], site: u16) {
         (self.slave, self.handed) = (COLD, None);
         let outcome = Outcome::from(Change::from(other::saved::older_resume(block, 0, 2016, site, 0)));

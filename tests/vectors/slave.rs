@@ -362,7 +362,7 @@ fn saves(v: &mut Vectors) {
     v.resume("16: no bytes", &[], 7);
 }
 
-/// Blocks of two releases: what this one reads of the block before it, and what that one read of this one's (document 02, Paper 12).
+/// Blocks of two releases: what this one makes of the earlier one's blocks, and that one of this one's (document 02, Paper 12).
 fn releases(v: &mut Vectors) {
     let old_hunting = old(&HUNTING_BLOCK, [0xFD, 0x94, 0xA0, 0x42]);
     let old_locked = old(&LOCKED_BLOCK, [0x9E, 0xBB, 0x22, 0x1A]);
@@ -388,7 +388,7 @@ fn releases(v: &mut Vectors) {
     v.older_resume("the release before this one, 16: the first 38 bytes", &LOCKED_BLOCK[..38], 7);
 }
 
-/// How many marks a slave coasted over since its last notice (document 02, Paper 12): every kind of mark counts, up to 255; a notice sets 0 behind its packet's
+/// How many marks a slave coasted over since its last notice (document 02, Paper 12): every kind of mark counts, up to 255; a notice sets 0 after its packet's
 /// own mark, a slip's too; a refused one does not.
 fn coasting(v: &mut Vectors) {
     let (null, none) = (null(), Packet { text: String::from("no bytes"), bytes: Vec::new() });
@@ -418,9 +418,9 @@ fn coasting(v: &mut Vectors) {
     v.gap("one mark short of three more", 1_871);
     v.packet("that mark, 6", &null, 5);
     v.gap("up to another", 623);
-    v.numbers("a notice on the mark: 0 behind it", &null, 5, Numbers { pointer: 623, ..m });
+    v.numbers("a notice on the mark: then 0", &null, 5, Numbers { pointer: 623, ..m });
     v.gap("a cadence", 624);
-    v.numbers("a slip onto label 0: 0 behind it too", &null, 5, Numbers { pointer: 623, ..m });
+    v.numbers("a slip onto label 0: then 0 too", &null, 5, Numbers { pointer: 623, ..m });
     v.gap("up to its mark again", 623);
     v.packet("late, 1", &null, 700_002);
     v.gap("a gap of 0 passes none", 0);

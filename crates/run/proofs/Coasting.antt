@@ -6,33 +6,26 @@ use Prim.Native.Nat.{ℕ, zero, suc, ◌+◌, ◌*◌, ◌-◌, ◌/◌, ◌%◌
 use native.Mathlib.Nat.{div-add-mod', mod-lt, mod_self, mod-eq_of_lt}
 use native.Mathlib.Omega.{arith}
 use lib.Dec.{eqb, leb}
-use lib.ListN.{length}
 use Rattle.std.proofs.lemmas.Bool.{eqb-true, eqb-false, leb-true, leb-false, ne_eqb}
 use Rattle.std.proofs.lemmas.Bool.Decides.{nat_tests}
 use Rattle.std.proofs.lemmas.Nat.{div-mul-add}
-use Rattle.wire.specs.Reply.{Reply, refused, given}
 use Rattle.wire.proofs.Tests.{pick, split, no}
 use Rattle.cadence.specs.Label.{label_of, next_label}
-use Rattle.addressing.specs.Entries.{settings_of}
-use Rattle.addressing.specs.declared.Settings.{Settings}
-use Rattle.notice.specs.Mip.{error_indicator, addressing_field}
-use Rattle.notice.specs.Reader.{section_refusal}
+use Rattle.cadence.proofs.Labels.{next_of_last, next_of_other}
 use Rattle.state.specs.Slave.{most_coasted}
 use Rattle.state.specs.Sound.{is_uncounted, hunting_fits, parts_fit, sound}
-use Rattle.state.specs.declared.Board.{Board}
 use Rattle.state.specs.declared.Count.{Count}
 use Rattle.state.specs.declared.Slave.{Slave}
 use Rattle.state.proofs.Sound.{fitting}
-use Rattle.judging.specs.Judge.{unless_refused, unless_ignored, arrival_refusal, carries, taken_refusal, limited, mip_taken, judge_field, judge_mip, judge_arrived, judge_packet, judge_given, numbers_taken, judge_numbers}
-use Rattle.judging.specs.declared.Numbers.{Numbers}
 use Rattle.judging.specs.Judgement.{Judgement, Lost, Refuse, Counts, Takes}
+use Rattle.judging.proofs.Arrived.{Arrived, packet_arrived, numbers_arrived}
 use Rattle.slave.specs.Answer.{Notice, label_in, notice_in, Report, Result}
 use Rattle.slave.specs.Step.{coasted_on, labelled, past, moved_to, notice_by, notice_taken, passed, unheard, counted, took}
 use Rattle.slave.specs.Gap.{to_mark, marks_in, kept_over, gapped}
 use Rattle.slave.specs.Calls.{step_of, packet_of, numbers_of}
 use Rattle.run.specs.Book.{Arrival, packet, numbers, tick_of, Call, at, gap, judged}
 use Rattle.run.specs.Run.{hear, leave, slave_after}
-use Rattle.run.specs.Coasting.{is_taken, hears, labels_from, listed, labels, marks_among, marks_over, NoneHeard, Coasting}
+use Rattle.run.specs.Coasting.{is_taken, says_taken, labels_from, listed, labels, marks_among, marks_over, NoneSaysTaken, Coasting}
 use Rattle.run.proofs.Run.{heard, left_by, leave_sound}
 
 -- ---- the marks among k packets, counted one by one, are a gap's
@@ -48,14 +41,14 @@ module _ (n : ℕ) (some : 0 < n) where
       ap (λ (x : ℕ). x / n) e ∙ div-mul-add (suc (k / n)) n (k % n) (mod-lt k some)
 
   next_is : (x : ℕ) → suc x < n → next_label n x ≡ suc x
-  next_is x h = mod-eq_of_lt (omega arith) ∙ omega arith
+  next_is x h = next_of_other n x (omega arith) ∙ omega arith
 
   next_last : (x : ℕ) → suc x ≡ n → next_label n x ≡ 0
   next_last x h =
-      let e : x + 1 ≡ n = omega (arith, h) in
-      ap (λ (y : ℕ). y % n) e ∙ mod_self n
+      let e : x ≡ n - 1 = omega (arith, h) in
+      ap (next_label n) e ∙ next_of_last n some
 
-  -- behind the label x
+  -- of the k labels after x
   abbrev Among : ℕ → Type 0
   Among k = (x : ℕ) → x < n → marks_among (labels_from n (next_label n x) k) ≡ (k + x) / n
 
@@ -99,7 +92,7 @@ module _ (n : ℕ) (some : 0 < n) where
           let below : suc x < n = omega (arith, eqb-false _ _ e) in
           reckoned k x (n - suc x) (omega arith) (ap (to_mark n) (next_is x below) ∙ mod-eq_of_lt (omega arith))
 
-  -- each label is one behind another
+  -- every label comes after one
   abbrev Counted : ℕ → ℕ → Type 0
   Counted k l = marks_in n l k ≡ marks_among (labels_from n l k)
 
@@ -109,46 +102,6 @@ module _ (n : ℕ) (some : 0 < n) where
   pub marks_counted : (next k : ℕ) → next < n → Counted k next
   marks_counted zero k h = subst (Counted k) (next_last (n - 1) (omega arith)) (counted_behind k (n - 1) (omega arith))
   marks_counted (suc x) k h = subst (Counted k) (next_is x h) (counted_behind k x (omega arith))
-
--- ---- what comes and is not empty is not lost
-
-abbrev Here : Judgement → Type 0
-Here Lost = ⊥
-Here (Refuse k) = Unit {0}
-Here (Counts k) = Unit {0}
-Here (Takes x) = Unit {0}
-
-here_unless : (k : ℕ) (j : Judgement) → Here j → Here (unless_refused k j)
-here_unless zero j h = h
-here_unless (suc k) j h = tt
-
-here_ignored : (k : ℕ) (j : Judgement) → Here j → Here (unless_ignored k j)
-here_ignored zero j h = h
-here_ignored (suc k) j h = tt
-
-module _ (b : Board) (t : Settings) (p : List ℕ) where
-  field_here : (r : Reply Settings) → Here (judge_field b p r)
-  unfolding limited
-  field_here (refused k) = tt
-  field_here (given u) = here_ignored (taken_refusal b (mip_taken p u)) _ tt
-
-  arrived_here : (limit : ℕ) → Here (judge_arrived b t p limit)
-  unfolding judge_arrived judge_mip
-  arrived_here limit =
-      pick Here (eqb (error_indicator p) 0) _ _
-      (pick Here (carries b.profile p) _ _ (here_ignored (section_refusal p limit) _ (field_here (settings_of (addressing_field p) b.site t))) tt)
-      tt
-
-  numbers_here : (tick : ℕ) (x : Numbers) → Here (judge_numbers b t p tick x)
-  unfolding judge_given limited
-  numbers_here tick x =
-      here_unless (arrival_refusal b.profile p tick) _
-      (pick Here (eqb b.profile 0) _ _ tt
-      (pick Here (eqb (error_indicator p) 0) _ _ (here_ignored (taken_refusal b (numbers_taken t x)) _ tt) tt))
-
-packet_here : (b : Board) (t : Settings) (x : ℕ) (p : List ℕ) (tick limit : ℕ) → Here (judge_packet b t (x ∷ p) tick limit)
-packet_here b t x p tick limit =
-    rw (ne_eqb (suc (length p)) 0 (λ e. omega arith)) (here_unless (arrival_refusal b.profile (x ∷ p) tick) _ (arrived_here b t (x ∷ p) limit))
 
 -- ---- one step, of what is judged and not lost
 
@@ -181,7 +134,7 @@ module _ (s : Slave) (tick : ℕ) where
   step_zero (Takes x) = λ e. refl
 
   module _ (small : s.count.coasted ≤ most_coasted) where
-    step_more : (j : Judgement) → Here j → More (step_of s j tick)
+    step_more : (j : Judgement) → Arrived j → More (step_of s j tick)
     unfolding step_of counted passed unheard took
     step_more Lost h = absurd h
     step_more (Refuse k) h = λ e. kept s.count.coasted small
@@ -209,15 +162,15 @@ module _ (s : Slave) (tick : ℕ) where
 -- ---- the calls
 
 -- a call that takes a notice has a sound slave
-hears_sound : (s : Slave) (t : ℕ) (a : Arrival) → hears s (at t a) ≡ true → sound s ≡ true
+taken_sound : (s : Slave) (t : ℕ) (a : Arrival) → says_taken s (at t a) ≡ true → sound s ≡ true
 unfolding hear packet_of numbers_of
-hears_sound s t (packet form p tick limit) =
+taken_sound s t (packet form p tick limit) =
     split (λ (r : Result Report). is_taken (notice_in r.reply) ≡ true → sound s ≡ true) (sound s) _ _ (λ ok e. ok) (λ ill e. absurd (false≢true e))
-hears_sound s t (numbers p tick x) =
+taken_sound s t (numbers p tick x) =
     split (λ (r : Result Report). is_taken (notice_in r.reply) ≡ true → sound s ≡ true) (sound s) _ _ (λ ok e. ok) (λ ill e. absurd (false≢true e))
 
 module _ (s : Slave) (ok : sound s ≡ true) where
-  heard_zero : (t : ℕ) (a : Arrival) → hears s (at t a) ≡ true → (leave s (at t a)).count.coasted ≡ 0
+  heard_zero : (t : ℕ) (a : Arrival) → says_taken s (at t a) ≡ true → (leave s (at t a)).count.coasted ≡ 0
   unfolding leave
   heard_zero t a = subst (Zero s (tick_of a)) (sym (heard s ok a)) (step_zero s (tick_of a) (judged s.board s.settings a))
 
@@ -225,16 +178,16 @@ module _ (s : Slave) (ok : sound s ≡ true) where
     gap_left : (k : ℕ) → (leave s (gap k)).count.coasted ≡ coasted_on s.count.coasted (marks_among (labels s (gap k)))
     gap_left k = ap (λ (x : Slave). x.count.coasted) (left_by s ok (gap k)) ∙ gap_more s 0 small k (fitting s ok).below
 
-    more_left : (c : Call) → hears s c ≡ false → (leave s c).count.coasted ≡ coasted_on s.count.coasted (marks_among (labels s c))
+    more_left : (c : Call) → says_taken s c ≡ false → (leave s c).count.coasted ≡ coasted_on s.count.coasted (marks_among (labels s c))
     unfolding leave judged step_of
     more_left (at t (packet form [] tick limit)) e =
         ap (λ (x : Slave). x.count.coasted) (left_by s ok (at t (packet form [] tick limit))) ∙ gap_more s 0 small 1 (fitting s ok).below
     more_left (at t (packet form (b ∷ p) tick limit)) e =
         subst (More s tick) (sym (heard s ok (packet form (b ∷ p) tick limit)))
-        (step_more s tick small _ (packet_here s.board s.settings b p tick limit)) e
+        (step_more s tick small _ (packet_arrived s.board s.settings b p tick limit)) e
     more_left (at t (numbers p tick x)) e =
         subst (More s tick) (sym (heard s ok (numbers p tick x)))
-        (step_more s tick small _ (numbers_here s.board s.settings p tick x)) e
+        (step_more s tick small _ (numbers_arrived s.board s.settings p tick x)) e
     more_left (gap k) e = gap_left k
 
 -- one that hunts
@@ -248,7 +201,7 @@ hunting_most s ok e = grind (arith, nat_tests)
 both_on : (m a b : ℕ) → coasted_on (coasted_on m a) b ≡ coasted_on m (a + b)
 both_on m a b = omega arith
 
-over_calls : (s : Slave) → sound s ≡ true → s.count.coasted ≤ most_coasted → (cs : List Call) → NoneHeard s cs
+over_calls : (s : Slave) → sound s ≡ true → s.count.coasted ≤ most_coasted → (cs : List Call) → NoneSaysTaken s cs
     → (slave_after s cs).count.coasted ≡ coasted_on s.count.coasted (marks_over s cs)
 unfolding slave_after
 over_calls s ok small [] e = kept s.count.coasted small
@@ -262,11 +215,10 @@ over_calls s ok small (c ∷ cs) e =
 pub coasting : Coasting
 coasting =
     record {
-      taking = λ s t a e. heard_zero s (hears_sound s t a e) t a e;
-      since = λ s t a behind e none.
-          let zero = heard_zero s (hears_sound s t a e) t a e in
-          over_calls (leave s (at t a)) (leave_sound s (hears_sound s t a e) (at t a)) (omega (arith, zero)) behind none
-          ∙ ap (λ (x : ℕ). coasted_on x (marks_over (leave s (at t a)) behind)) zero
+      since = λ s t a after e none.
+          let zero = heard_zero s (taken_sound s t a e) t a e in
+          over_calls (leave s (at t a)) (leave_sound s (taken_sound s t a e) (at t a)) (omega (arith, zero)) after none
+          ∙ ap (λ (x : ℕ). coasted_on x (marks_over (leave s (at t a)) after)) zero
           ∙ omega arith;
       passing = λ s c ok small e. more_left s ok small c e;
       hunting = hunting_most;

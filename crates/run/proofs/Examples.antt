@@ -32,7 +32,7 @@ use Rattle.run.specs.Run.{hear, leave, slave_after, begun, places, Run}
 use Rattle.run.specs.Claim.{told_exactly, Timed}
 use Rattle.run.specs.Late.{Lengthened, mark_behind, Held}
 use Rattle.run.specs.Card.{by_gaps, ToldRun}
-use Rattle.run.specs.Coasting.{hears, marks_over, NoneHeard}
+use Rattle.run.specs.Coasting.{says_taken, marks_over, NoneSaysTaken}
 use Rattle.run.proofs.Sentences.{sentences}
 use Rattle.run.proofs.Card.{all_told_agree}
 use Rattle.run.proofs.Late.{mended}
@@ -333,13 +333,13 @@ coasting_calls =
     ∷ note 624 2497 5 (pos 0) ∷ at 2498 (packet in_place damaged 5 longest_addressing) ∷ []
 
 pub coasts :
-    (hears (begun g) (note 3 620 1 (pos 0)) ≡ true) × NoneHeard noticed coasting_calls × (marks_over noticed coasting_calls ≡ 4)
+    (says_taken (begun g) (note 3 620 1 (pos 0)) ≡ true) × NoneSaysTaken noticed coasting_calls × (marks_over noticed coasting_calls ≡ 4)
     × (replies noticed coasting_calls
     ≡ said (some 0) absent (in_bits 42 42 22 30) ∷ said none absent unmarked ∷ said none absent unmarked ∷ said (some 1) (ignored 12) unmarked ∷ refused 2 ∷ [])
 unfolding judged hear leave start_of packet_of numbers_of gap_of sound settings_kept admits second parts_fit hunting_fits is_unset is_uncounted is_zero locked_fits frequency_fits index_fits waiting_fits is_nothing delay_kept delay_fits delay_fits_a110 within arrival_refusal carries taken_refusal limited judge_arrived judge_given step_of counted passed unheard took mark_at mark_taken notice_taken release_at due_of wrap modulation link_delay gapped
 coasts = (refl, (refl, (refl, (refl, (refl, (refl, (refl, (refl, tt))))))), refl, refl)
 
--- so its slave has coasted over four marks
+-- so the slave's number is 4
 pub coasted_4 : (slave_after noticed coasting_calls).count.coasted ≡ 4
 coasted_4 = coasting.since (begun g) 620 _ coasting_calls coasts.0 coasts.1 ∙ ap (λ (m : ℕ). min m 255) coasts.2
 

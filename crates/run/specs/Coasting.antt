@@ -18,9 +18,9 @@ is_taken slip = true
 is_taken (ignored k) = false
 
 -- by what a call replies
-abbrev pub hears : Slave → Call → Bool
-hears s (at t a) = is_taken (notice_in (hear s a).reply)
-hears s (gap k) = false
+abbrev pub says_taken : Slave → Call → Bool
+says_taken s (at t a) = is_taken (notice_in (hear s a).reply)
+says_taken s (gap k) = false
 
 -- the labels of k packets, of which the first has this one
 abbrev pub labels_from : (n label k : ℕ) → List ℕ
@@ -51,16 +51,16 @@ abbrev pub marks_over : Slave → List Call → ℕ
 marks_over s [] = 0
 marks_over s (c ∷ cs) = marks_among (labels s c) + marks_over (leave s c) cs
 
-abbrev pub NoneHeard : Slave → List Call → Type 0
-NoneHeard s [] = Unit {0}
-NoneHeard s (c ∷ cs) = (hears s c ≡ false) × NoneHeard (leave s c) cs
+abbrev pub NoneSaysTaken : Slave → List Call → Type 0
+NoneSaysTaken s [] = Unit {0}
+NoneSaysTaken s (c ∷ cs) = (says_taken s c ≡ false) × NoneSaysTaken (leave s c) cs
 
--- after a call that takes a notice the number is 0, whatever mark is on its packet; after more calls, of which none takes one, it is the least of 255 and the
--- marks passed in them. Any other call adds the marks that it passes; and a sound slave that hunts has 255
+-- after a call that takes a notice, and more calls of which none takes one, the number is the least of 255 and the marks passed in these; so it is 0 where
+-- no call came since, whatever mark is on the notice's own packet. Any call that takes none adds the marks that it passes, up to 255, to a number that is a byte,
+-- as every slave of the code has it. And a sound slave that hunts has 255
 pub record Coasting : Type 0 where
-  pub taking : (s : Slave) (t : ℕ) (a : Arrival) → hears s (at t a) ≡ true → (leave s (at t a)).count.coasted ≡ 0
-  pub since : (s : Slave) (t : ℕ) (a : Arrival) (behind : List Call) → hears s (at t a) ≡ true → NoneHeard (leave s (at t a)) behind
-      → (slave_after (leave s (at t a)) behind).count.coasted ≡ min (marks_over (leave s (at t a)) behind) most_coasted
-  pub passing : (s : Slave) (c : Call) → sound s ≡ true → s.count.coasted ≤ most_coasted → hears s c ≡ false
+  pub since : (s : Slave) (t : ℕ) (a : Arrival) (after : List Call) → says_taken s (at t a) ≡ true → NoneSaysTaken (leave s (at t a)) after
+      → (slave_after (leave s (at t a)) after).count.coasted ≡ min (marks_over (leave s (at t a)) after) most_coasted
+  pub passing : (s : Slave) (c : Call) → sound s ≡ true → s.count.coasted ≤ most_coasted → says_taken s c ≡ false
       → (leave s c).count.coasted ≡ min (s.count.coasted + marks_among (labels s c)) most_coasted
   pub hunting : (s : Slave) → sound s ≡ true → s.count.phase ≡ 1 → s.count.coasted ≡ most_coasted

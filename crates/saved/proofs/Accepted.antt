@@ -1,4 +1,4 @@
--- What resume accepts is what a save writes, this release's or the one's before it.
+-- What resume accepts is what a save writes, by this release or the one before.
 --     accepted_body    the body of an accepted block is the body, old or whole by its distance, of the slave that is left
 --     accepted_block   and with that body's own distance, body through check value are exactly the block that the slave makes
 use mathlib.Core.Path.{◌≡◌, refl, sym, ap, ap₂, ◌∙◌}
@@ -115,7 +115,7 @@ module _ (block : List ℕ) (b : Board) (e : (resume_of block b).reply ≡ given
       (fits.0, ap (λ (r : Result (Unit {0})). r.slave) (resume_held (held block) block b kept.0 fits.0 same.0))
 
   module _ (bytes : Bytes block) where
-    -- its body, and what save makes of that body
+    -- which body it has
     abbrev kind : Body
     kind = body_at (distance block)
 

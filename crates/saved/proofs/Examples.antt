@@ -1,4 +1,4 @@
--- The premises of the theorems can be met, and document 01's examples of 16 to 18 hold.
+-- The premises of the theorems can be met, and the papers' examples of 16 to 18 hold.
 use mathlib.Core.Path.{◌≡◌, refl, ap}
 use mathlib.Core.Bool.{true}
 use mathlib.Core.List.{List, []}
@@ -29,7 +29,7 @@ use Rattle.saved.proofs.Older.{old_resumes}
 abbrev board : ℕ → Board
 board site = record { profile = 0; n = 2016; site = site; tad = 200 }
 
--- a locked slave with a negative OD and a pending notice, that coasted over 254 marks before it
+-- a locked slave with a negative OD, a pending notice, and 254 marks coasted: no packet or gap leaves such a one, but a body may hold it
 abbrev locked : Slave
 locked =
     record {
@@ -81,7 +81,10 @@ hunts_254 = refl
 pub old_locked : resume_of (older_block locked) (board 7) ≡ left (record locked { count = record (locked_at 2015 unknown) { coasted = 255 } }) (given tt)
 old_locked = old_resumes locked fits [] old_sound
 
--- 18: 38 bytes, which the release before this one wrote
-pub short_38 : save_of locked (replicate 38 0) ≡ record { reply = refused 18; bytes = replicate 38 0 }
+-- 18: document 01's 37 bytes, and 38, which the release before this one wrote
+abbrev Short : ℕ → Type 0
+Short k = save_of locked (replicate k 0) ≡ record { reply = refused 18; bytes = replicate k 0 }
+
+pub short : Short 37 × Short 38
 unfolding save_of save_refusal settings_kept admits is_mega_frame at_some_rate second sound parts_fit locked_fits frequency_fits index_fits waiting_fits delay_kept delay_fits within
-short_38 = refl
+short = (refl, refl)

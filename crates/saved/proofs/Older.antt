@@ -44,7 +44,7 @@ older_sound : (s : Slave) → sound s ≡ true → sound (older s) ≡ true
 unfolding sound parts_fit hunting_fits is_uncounted locked_fits
 older_sound s ok = grind (arith, nat_tests)
 
--- bytes of another length than the block's: the distance that they have leads out, whatever slave it is
+-- where the shape is wrong it is 16, whatever slave the bytes are read as
 unshaped : (b : List ℕ) (t : Slave) (board : Board) → settings_kept board ≡ true → shaped b ≡ false → resumed t b board ≡ left (hunting board) (refused 16)
 unfolding block_fits
 unshaped b t board kept e = resume_16 t b board kept (rw e refl)

@@ -54,7 +54,7 @@ trailer_site b = be16_at (trailer b) 0
 abbrev pub distance : List ℕ → ℕ
 distance b = be16_at (trailer b) 2
 
--- it is old at exactly 30
+-- the body at that distance: the old one at exactly 30
 abbrev pub body_at : ℕ → Body
 body_at d = cond (eqb d (length_of old)) old whole
 
@@ -62,7 +62,7 @@ body_at d = cond (eqb d (length_of old)) old whole
 unfoldable pub shaped : List ℕ → Bool
 shaped b = leb (length_of old) (distance b) && leb (distance b + trailer_length) (length b)
 
--- body through check value
+-- body through check value, and the slave in it
 unfoldable pub from_body : List ℕ → List ℕ
 from_body b = drop (length b - trailer_length - distance b) b
 
@@ -85,10 +85,10 @@ resume_refusal s block b =
     (must (same_board s.board b) 17
     0))
 
--- a number leaves what a start of the board leaves, the cold slave or a fresh hunting one; else that slave is left
+-- where a block is read as this slave: a number leaves what a start of the board leaves, the cold slave or a fresh hunting one; else this slave is left
 unfoldable pub resumed : Slave → List ℕ → Board → Result (Unit {0})
 resumed s block b = left (kept_by (resume_refusal s block b) (start_of b).slave s) (reply (resume_refusal s block b) tt)
 
--- a block is read as the slave that it holds
+-- and it is read as the slave that it holds
 unfoldable pub resume_of : List ℕ → Board → Result (Unit {0})
 resume_of block b = resumed (held block) block b

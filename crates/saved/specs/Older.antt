@@ -1,6 +1,6 @@
--- The release before this one, as document 01 has it, beside this one (document 02, Paper 12): what it saved, and what it makes of any block. It counts no marks
--- and knows one body, the old one, at every distance that it takes. A slave of it has no such part; here 255 stands for that, with which a slave is sound
--- exactly where it was sound there.
+-- The release before this one, as document 01 has it, beside this one (document 02, Paper 12): what it saved, and what it makes of any block. It counts no
+-- marks and knows one body, the old one, at every distance that it takes. A slave of it has no such part; here 255 stands for that, but for the cold slave,
+-- and with 255 a slave is sound exactly where it was sound there.
 use Rattle.std.specs.Prelude.{ℕ, List}
 use Rattle.state.specs.declared.Board.{Board}
 use Rattle.state.specs.declared.Slave.{Slave}

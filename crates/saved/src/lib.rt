@@ -11,14 +11,16 @@ use addressing::Settings;
 use state::{Board, Count, MOST_COASTED, Slave, Waiting};
 use wire::Refusal;
 
-// The bytes of a body, of a trailer, and of the block that a save writes; and of the block that has document 01's body, without byte 30.
+// The bytes of a body, of a trailer, and of the block that a save writes; and of document 01's body, without byte 30, and its block.
 const BODY_LENGTH: usize = 31;
 
 const TRAILER_LENGTH: usize = 8;
 
 const BLOCK_LENGTH: usize = BODY_LENGTH + TRAILER_LENGTH;
 
-const OLD_BLOCK_LENGTH: usize = 30 + TRAILER_LENGTH;
+const OLD_BODY_LENGTH: usize = 30;
+
+const OLD_BLOCK_LENGTH: usize = OLD_BODY_LENGTH + TRAILER_LENGTH;
 
 // Puts a slave's body over the first bytes. The places are the papers'.
 fn put_body(out: &mut [u8], s: Slave)

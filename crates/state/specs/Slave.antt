@@ -10,8 +10,7 @@ use Rattle.state.specs.declared.Slave.{Slave}
 abbrev pub unknown : ℕ
 unknown = 255
 
--- the marks passed since the last notice taken are counted up to this number, which then holds, and which a slave has that never took one
--- (document 02, Paper 12)
+-- the marks passed since the last notice taken are counted up to this number, which then holds; a hunting slave has it (document 02, Paper 12)
 abbrev pub most_coasted : ℕ
 most_coasted = 255
 

@@ -35,7 +35,7 @@ pub const PENDING: u8 = 1;
 
 pub const UNKNOWN_INDEX: u8 = 255;
 
-// The marks passed since the last notice taken are counted up to this number, which a slave has that never took one (document 02, Paper 12).
+// The marks passed since the last notice taken are counted up to this number; a hunting slave has it (document 02, Paper 12).
 pub const MOST_COASTED: u8 = 255;
 
 // Where the slave stands in the cadence: its phase, 1 where it hunts and 2 where it is locked, the next packet's label, the next mark's index, and the marks

@@ -124,7 +124,7 @@ pub extern "C" fn vikombare_gap(s: &mut Slave, k: u16) -> u8
     replies::outcome_number(slave::gap(s, k))
 }
 
-// Saves a slave in the first 38 bytes that are lent; 0 or the number.
+// Saves a slave in the first 39 bytes that are lent; 0 or the number.
 #[unsafe(no_mangle)]
 pub extern "C" fn vikombare_save(s: Slave, out: &mut [u8]) -> u8
     ensures { filled_with result out.new ≡ flat_output (save_of s out.old) }
