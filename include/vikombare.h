@@ -166,8 +166,8 @@ typedef struct {
     uint16_t next;   /* label of the next packet */
     uint8_t index;   /* index of the next mark, 0 to 19, or VIKOMBARE_INDEX_UNKNOWN */
     uint8_t coasted; /* marks passed since the last notice taken, those in gaps too, whatever became of each: up to VIKOMBARE_MOST_COASTED, which stands for
-                        every number from 255 on. The mark on that notice's own packet is not among them. A hunting slave has 255, and so has one that
-                        resumed from a block of before 4.0; a cold one has 0 */
+                        every number from 255 on. The mark on that notice's own packet is not among them. A hunting slave has 255, and one that resumed
+                        from a block of before 4.0 has it until a notice is taken; a cold one has 0 */
 } vikombare_count;
 
 /* The notice that waits for the next mark. */
