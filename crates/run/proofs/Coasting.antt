@@ -22,7 +22,7 @@ use Rattle.judging.proofs.Arrived.{Arrived, packet_arrived, numbers_arrived}
 use Rattle.slave.specs.Answer.{Notice, label_in, notice_in, Report, Result}
 use Rattle.slave.specs.Step.{coasted_on, labelled, past, moved_to, notice_by, notice_taken, passed, unheard, counted, took}
 use Rattle.slave.specs.Gap.{to_mark, marks_in, kept_over, gapped}
-use Rattle.slave.specs.Calls.{step_of, packet_of, numbers_of}
+use Rattle.slave.specs.Calls.{unless15, step_of, packet_of, numbers_of}
 use Rattle.run.specs.Book.{Arrival, packet, numbers, tick_of, Call, at, gap, judged}
 use Rattle.run.specs.Run.{hear, leave, slave_after}
 use Rattle.run.specs.Coasting.{is_taken, says_taken, labels_from, listed, labels, marks_among, marks_over, NoneSaysTaken, Coasting}
@@ -96,12 +96,12 @@ module _ (n : ℕ) (some : 0 < n) where
   abbrev Counted : ℕ → ℕ → Type 0
   Counted k l = marks_in n l k ≡ marks_among (labels_from n l k)
 
-  counted_behind : (k x : ℕ) → x < n → Counted k (next_label n x)
-  counted_behind k x h = in_gap k x h ∙ sym (among k x h)
+  counted_after : (k x : ℕ) → x < n → Counted k (next_label n x)
+  counted_after k x h = in_gap k x h ∙ sym (among k x h)
 
   pub marks_counted : (next k : ℕ) → next < n → Counted k next
-  marks_counted zero k h = subst (Counted k) (next_last (n - 1) (omega arith)) (counted_behind k (n - 1) (omega arith))
-  marks_counted (suc x) k h = subst (Counted k) (next_is x h) (counted_behind k x (omega arith))
+  marks_counted zero k h = subst (Counted k) (next_last (n - 1) (omega arith)) (counted_after k (n - 1) (omega arith))
+  marks_counted (suc x) k h = subst (Counted k) (next_is x h) (counted_after k x (omega arith))
 
 -- ---- one step, of what is judged and not lost
 
@@ -161,13 +161,15 @@ module _ (s : Slave) (tick : ℕ) where
 
 -- ---- the calls
 
--- a call that takes a notice has a sound slave
+-- a call that takes a notice has a sound slave: any other gets 15
+unless_sound : (s : Slave) (r : Result Report) → is_taken (notice_in (unless15 (sound s) r).reply) ≡ true → sound s ≡ true
+unless_sound s r =
+    split (λ (x : Result Report). is_taken (notice_in x.reply) ≡ true → sound s ≡ true) (sound s) r _ (λ ok e. ok) (λ ill e. absurd (false≢true e))
+
 taken_sound : (s : Slave) (t : ℕ) (a : Arrival) → says_taken s (at t a) ≡ true → sound s ≡ true
 unfolding hear packet_of numbers_of
-taken_sound s t (packet form p tick limit) =
-    split (λ (r : Result Report). is_taken (notice_in r.reply) ≡ true → sound s ≡ true) (sound s) _ _ (λ ok e. ok) (λ ill e. absurd (false≢true e))
-taken_sound s t (numbers p tick x) =
-    split (λ (r : Result Report). is_taken (notice_in r.reply) ≡ true → sound s ≡ true) (sound s) _ _ (λ ok e. ok) (λ ill e. absurd (false≢true e))
+taken_sound s t (packet form p tick limit) = unless_sound s _
+taken_sound s t (numbers p tick x) = unless_sound s _
 
 module _ (s : Slave) (ok : sound s ≡ true) where
   heard_zero : (t : ℕ) (a : Arrival) → says_taken s (at t a) ≡ true → (leave s (at t a)).count.coasted ≡ 0
@@ -175,9 +177,6 @@ module _ (s : Slave) (ok : sound s ≡ true) where
   heard_zero t a = subst (Zero s (tick_of a)) (sym (heard s ok a)) (step_zero s (tick_of a) (judged s.board s.settings a))
 
   module _ (small : s.count.coasted ≤ most_coasted) where
-    gap_left : (k : ℕ) → (leave s (gap k)).count.coasted ≡ coasted_on s.count.coasted (marks_among (labels s (gap k)))
-    gap_left k = ap (λ (x : Slave). x.count.coasted) (left_by s ok (gap k)) ∙ gap_more s 0 small k (fitting s ok).below
-
     more_left : (c : Call) → says_taken s c ≡ false → (leave s c).count.coasted ≡ coasted_on s.count.coasted (marks_among (labels s c))
     unfolding leave judged step_of
     more_left (at t (packet form [] tick limit)) e =
@@ -188,7 +187,7 @@ module _ (s : Slave) (ok : sound s ≡ true) where
     more_left (at t (numbers p tick x)) e =
         subst (More s tick) (sym (heard s ok (numbers p tick x)))
         (step_more s tick small _ (numbers_arrived s.board s.settings p tick x)) e
-    more_left (gap k) e = gap_left k
+    more_left (gap k) e = ap (λ (x : Slave). x.count.coasted) (left_by s ok (gap k)) ∙ gap_more s 0 small k (fitting s ok).below
 
 -- one that hunts
 hunting_most : (s : Slave) → sound s ≡ true → s.count.phase ≡ 1 → s.count.coasted ≡ most_coasted
