@@ -7,6 +7,9 @@ use Rattle.notice.specs.declared.Notice as Mip
 use Rattle.state.specs.declared.Board.{Board}
 use Rattle.state.specs.declared.Slave.{Slave}
 use Rattle.slave.specs.Answer.{Result}
+use Rattle.inserter.specs.declared.Inserter.{Inserter}
+use Rattle.inserter.specs.Settings.{Started}
+use Rattle.inserter.specs.Packet.{Handled}
 use Rattle.vikombare.specs.declared.Tick.{Tick}
 use Rattle.vikombare.specs.declared.NoticeRead.{NoticeRead}
 
@@ -56,3 +59,30 @@ flat_notice (refused k) a =
       addressing = 0;
     }
 flat_notice (given n) a = record { number = 0; notice = n; addressing = a }
+
+-- what a start of an inserter leaves, with its number
+pub record Begun : Type 0 where
+  pub inserter : Inserter
+  pub number : ℕ
+
+abbrev pub begun_with : Inserter → ℕ → Begun
+begun_with s k = record { inserter = s; number = k }
+
+abbrev pub flat_start : Started → Begun
+flat_start r = begun_with r.inserter (number_of r.reply)
+
+-- what a packet call of one leaves: the inserter, the bytes of the packet, and the number that refuses it, or that of a packet that is sent
+pub record Inserted : Type 0 where
+  pub inserter : Inserter
+  pub bytes : List ℕ
+  pub number : ℕ
+
+abbrev pub inserted_with : Inserter → List ℕ → ℕ → Inserted
+inserted_with s bytes k = record { inserter = s; bytes = bytes; number = k }
+
+abbrev pub sent_number : Reply ℕ → ℕ
+sent_number (refused k) = k
+sent_number (given k) = k
+
+abbrev pub flat_insert : Handled → Inserted
+flat_insert h = inserted_with h.inserter h.bytes (sent_number h.reply)

@@ -1,5 +1,5 @@
-// The calls that a board's firmware links, for C: a slave's start, packets, numbers notices and gaps, its saved block, and notices read and written. Each
-// call that moves a slave is lent it. include/vikombare.h is their header.
+// The calls that a board's firmware links, for C: a slave's start, packets, numbers notices and gaps, its saved block, notices read and written, and the
+// inserter's start and packets. Each call that moves a slave or an inserter is lent it. include/vikombare.h is their header.
 // No call has a condition on its numbers: bad input gets the papers' number. C has no Option, no Result and no enum with values: a number
 // stands beside what it says.
 #![tactic(auto)]
@@ -12,8 +12,11 @@ ghost use Rattle.writer.specs.Writer.{write_of};
 ghost use Rattle.slave.specs.Calls.{start_of, packet_of, numbers_of, gap_of};
 ghost use Rattle.saved.specs.Block.{save_of, resume_of};
 ghost use Rattle.replies.specs.Flat.{flat_left, flat_step};
-ghost use Rattle.vikombare.specs.Flat.{tick_on, changed, flat_change, dvb_board, a110_board, filled_with, flat_output, flat_notice};
+ghost use Rattle.vikombare.specs.Flat.{tick_on, changed, flat_change, dvb_board, a110_board, filled_with, flat_output, flat_notice, begun_with, flat_start, inserted_with, flat_insert};
+ghost use Rattle.inserter.specs.Settings.{start_of as inserter_start_of};
+ghost use Rattle.inserter.specs.Packet.{insert_of};
 
+use inserter::Inserter;
 use judging::Numbers;
 use notice::Notice;
 use replies::PacketReply;
@@ -193,4 +196,27 @@ pub extern "C" fn vikombare_write(out: &mut [u8], n: Notice, field: &[u8]) -> u8
     ensures { filled_with result out.new ≡ flat_output (write_of out.old n field.now) }
 {
     replies::outcome_number(writer::write_notice(out, n, field))
+}
+
+// Starts an inserter in the lent memory, whatever it held; 0 or the number.
+#[unsafe(no_mangle)]
+pub extern "C" fn vikombare_inserter_start(
+    s: &mut Inserter,
+    settings: inserter::Settings,
+    field: &[u8],
+) -> u8
+    ensures { begun_with s.new result ≡ flat_start (inserter_start_of settings field.now) }
+{
+    replies::outcome_number(inserter::start(s, settings, field))
+}
+
+// A packet with the STS of the next mark, which leaves in its own buffer as it must go out; 0, 21 or the number that refuses it.
+#[unsafe(no_mangle)]
+pub extern "C" fn vikombare_insert(s: &mut Inserter, p: &mut [u8], sts: Steps) -> u8
+    ensures { inserted_with s.new p.new result ≡ flat_insert (insert_of s.old p.old sts) }
+{
+    match inserter::insert(s, p, sts) {
+        Ok(passed) => passed.number(),
+        Err(r) => r.number(),
+    }
 }

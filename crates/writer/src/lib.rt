@@ -3,6 +3,7 @@
 
 ghost use Rattle.std.specs.Prelude.{◌≡◌, ◌≤◌, OnOk, length};
 ghost use Rattle.wire.specs.Standards.{longest_addressing};
+ghost use Rattle.wire.specs.Put.{put_at};
 ghost use Rattle.wire.specs.Reply.{reply, reply_of};
 ghost use Rattle.writer.specs.Writable.{Writable};
 ghost use Rattle.writer.specs.Writer.{write_refusal, flags_of, head_of, write_of, output_of};
@@ -10,9 +11,9 @@ ghost use Rattle.writer.specs.Writer.{write_refusal, flags_of, head_of, write_of
 use notice::Notice;
 use wire::{ADDRESSING_START, LONGEST_ADDRESSING, PACKET_LENGTH, Refusal};
 
-// 18, 19, 8, 10 and 11: the room, the notice's fields, the addressing field and the times.
+// 18, 19, 8, 10 and 11: the room, the notice's fields, the addressing field and the times. An inserter's settings are judged so too.
 #[tactic(auto, unfolding(crate::specs::Writer::write_refusal))]
-fn check_write(room: usize, n: Notice, field: &[u8]) -> Result<(), Refusal>
+pub fn check_write(room: usize, n: Notice, field: &[u8]) -> Result<(), Refusal>
     ensures numbers { reply_of result ≡ reply (write_refusal room n field.now) tt }
     ensures fits { OnOk result (Writable room n field.now) }
 {
@@ -91,6 +92,16 @@ fn put_over(dst: &mut [u8], src: &[u8])
 {
     for (k, b) in src.iter().enumerate() {
         dst[k] = *b;
+    }
+}
+
+// Puts all of src at the front of dst; puts nothing where it does not fit. As wire::put does at 0, but byte by byte.
+#[tactic(auto, unfolding(wire::specs::Put::put_at))]
+pub fn put_front(dst: &mut [u8], src: &[u8])
+    ensures { dst.new ≡ put_at dst.old 0 src.now }
+{
+    if src.len() <= dst.len() {
+        put_over(&mut dst[..src.len()], src);
     }
 }
 

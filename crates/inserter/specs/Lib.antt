@@ -1,0 +1,3 @@
+-- The definitions of crate `inserter`, in reading order.
+pub mod Settings
+pub mod Packet
