@@ -15,7 +15,7 @@ use Rattle.addressing.specs.Entries.{well_formed}
 use Rattle.writer.specs.Writer.{write_refusal}
 use Rattle.inserter.specs.declared.Settings.{Settings}
 use Rattle.inserter.specs.declared.Inserter.{Inserter}
-use Rattle.inserter.specs.Packet.{insert_refusal, Ready}
+use Rattle.inserter.specs.Packet.{given_refusal, insert_refusal, Ready}
 use Rattle.inserter.specs.Settings.{notice_at, field_of, settings_refusal, progress_fits, sound}
 
 -- cadences have packets
@@ -72,7 +72,7 @@ sound_parts s e =
     }
 
 pub ready_lem : (s : Inserter) (p : List ℕ) (sts : Steps) → insert_refusal s p sts ≡ 0 → Ready s p sts
-unfolding insert_refusal
+unfolding insert_refusal given_refusal
 ready_lem s p sts e =
     let k : Sound s = sound_parts s (grind (arith, nat_tests)) in
     let long : length p ≡ packet_length = grind (arith, nat_tests) in

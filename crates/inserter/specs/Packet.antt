@@ -14,14 +14,17 @@ use Rattle.inserter.specs.declared.Passed.{Passed}
 use Rattle.inserter.specs.declared.Passed.TheVariants as passed
 use Rattle.inserter.specs.Settings.{notice_at, field_of, sound}
 
--- 15, 1, 2, and 11 of the STS given, on every packet: each keeps the inserter and the packet
-unfoldable pub insert_refusal : Inserter → List ℕ → Steps → ℕ
-insert_refusal s p sts =
-    must (sound s) 15
-    (must (eqb (length p) packet_length) 1
+-- 1, 2, and 11 of the STS given, on every packet
+unfoldable pub given_refusal : List ℕ → Steps → ℕ
+given_refusal p sts =
+    must (eqb (length p) packet_length) 1
     (must (eqb (get_or p 0 0) sync_byte) 2
     (must (in_second dvb_second sts.0) 11
-    0)))
+    0))
+
+-- and 15 first: each keeps the inserter and the packet
+unfoldable pub insert_refusal : Inserter → List ℕ → Steps → ℕ
+insert_refusal s p sts = must (sound s) 15 (given_refusal p sts)
 
 -- what a packet that none of these refuses leaves to the steps: it is whole, there is such a label and such a counter, and the notice is one that the writer writes
 pub record Ready (s : Inserter) (p : List ℕ) (sts : Steps) : Type 0 where

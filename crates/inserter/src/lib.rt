@@ -164,7 +164,7 @@ fn is_sound(s: &Inserter) -> bool
 }
 
 // 15, 1, 2 and 11.
-#[tactic(auto, unfolding(crate::specs::Packet::insert_refusal))]
+#[tactic(auto, unfolding(crate::specs::Packet::insert_refusal, crate::specs::Packet::given_refusal))]
 fn check_insert(s: &Inserter, p: &[u8], sts: Steps) -> Result<(), Refusal>
     ensures { reply_of result ≡ reply (insert_refusal s.now p.now sts) tt }
 {

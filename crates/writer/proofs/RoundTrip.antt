@@ -65,7 +65,7 @@ module _ (n : Notice) (f : List ℕ) (space : ℕ) (w : Writable space n f) wher
   sealed_end : length (sealed (fields_of n f)) ≡ 25 + length f
   sealed_end = sealed_length (fields_of n f) ∙ omega (arith, fields_length n f)
 
-  packet_length_lem : length (mip_of n f) ≡ packet_length
+  pub packet_length_lem : length (mip_of n f) ≡ packet_length
   packet_length_lem =
       ap length packet_parts
       ∙ length-append (sealed (fields_of n f)) (stuffing (longest_addressing - length f))
@@ -77,14 +77,14 @@ module _ (n : Notice) (f : List ℕ) (space : ℕ) (w : Writable space n f) wher
       ∙ ap register (take_at (sealed (fields_of n f)) (stuffing (longest_addressing - length f)) (25 + length f) sealed_end)
       ∙ leaves_zero (fields_of n f)
 
-  packet_field : take (length f) (drop 21 (mip_of n f)) ≡ f
+  pub packet_field : take (length f) (drop 21 (mip_of n f)) ≡ f
   unfolding mip_of fields_of head_of
   packet_field =
       ap (take (length f)) (append_assoc f (bytes32 (register (fields_of n f))) (stuffing (longest_addressing - length f)))
       ∙ take_at f (bytes32 (register (fields_of n f)) ++ stuffing (longest_addressing - length f)) (length f) refl
 
   module _ (e : write_refusal space n f ≡ 0) (k : Fits n) where
-    packet_notice : notice_in (mip_of n f) ≡ n
+    pub packet_notice : notice_in (mip_of n f) ≡ n
     unfolding mip_of fields_of head_of
     packet_notice =
         let j = judged space n f e in
@@ -99,7 +99,7 @@ module _ (n : Notice) (f : List ℕ) (space : ℕ) (w : Writable space n f) wher
           tps = spelled32 n.tps k.tps i;
         }
 
-    packet_sound : (limit : ℕ) → length f ≤ limit_of limit → Sound (mip_of n f) limit
+    pub packet_sound : (limit : ℕ) → length f ≤ limit_of limit → Sound (mip_of n f) limit
     unfolding mip_of fields_of head_of
     packet_sound limit h =
         let j = judged space n f e in

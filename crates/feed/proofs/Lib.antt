@@ -1,0 +1,4 @@
+-- The laws of crate `feed`, in the order in which they build on each other.
+pub mod Lists
+pub mod Steps
+pub mod Sending

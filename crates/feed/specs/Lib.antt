@@ -1,0 +1,4 @@
+-- The definitions of crate `feed`, in reading order.
+pub mod Calls
+pub mod MegaFrames
+pub mod Network
