@@ -2,3 +2,6 @@
 pub mod Lists
 pub mod Steps
 pub mod Sending
+pub mod Places
+pub mod Hearing
+pub mod Network

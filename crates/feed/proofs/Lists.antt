@@ -44,7 +44,7 @@ behind_both s [] js = refl
 behind_both s (i ∷ is) js = behind_both (sending s i).inserter is js
 
 -- ---- a sound inserter refuses with 1, 2 and 11 alone, and each keeps it; so what it sends is what it sends of the others
-call_is : (s : Inserter) → sound s ≡ true → (i : Item) → call_of s i ≡ unless_kept s i.bytes (given_refusal i.bytes i.sts) (sending s i)
+pub call_is : (s : Inserter) → sound s ≡ true → (i : Item) → call_of s i ≡ unless_kept s i.bytes (given_refusal i.bytes i.sts) (sending s i)
 unfolding insert_of insert_refusal
 call_is s ok i = rw ok refl
 

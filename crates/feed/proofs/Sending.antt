@@ -164,7 +164,7 @@ module _ (s : Inserter) where
         go (no h) = nothing_sent (λ h. number_in h.reply) h ∙ ap (λ (x : List Item). ends n 0 (has_null x) x) (sym (nothing_came h))
 
 -- ---- one notice in a mega-frame with a null packet, and one 21 in one without
-mip_is : (m : Notice) (f : List ℕ) → is_mip (mip_of m f) ≡ true
+pub mip_is : (m : Notice) (f : List ℕ) → is_mip (mip_of m f) ≡ true
 unfolding mip_of fields_of head_of
 mip_is m f = refl
 

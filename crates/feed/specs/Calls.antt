@@ -18,6 +18,11 @@ unfoldable pub outcomes : Inserter → List Item → List Handled
 outcomes s [] = []
 outcomes s (i ∷ is) = call_of s i ∷ outcomes (call_of s i).inserter is
 
+-- the inserter that calls leave
+unfoldable pub inserter_after : Inserter → List Item → Inserter
+inserter_after s [] = s
+inserter_after s (i ∷ is) = inserter_after (call_of s i).inserter is
+
 -- a packet that is refused is not sent, and has no place; one with 21 is sent, and has one
 abbrev pub is_sent : Reply ℕ → Bool
 is_sent (refused k) = false
@@ -40,6 +45,14 @@ numbers s is = map (λ h. number_in h.reply) (sent_among (outcomes s is))
 -- what came for them: the calls that neither 1 nor 2 nor 11 refuses
 abbrev pub came : List Item → List Item
 came = filter (λ i. eqb (given_refusal i.bytes i.sts) 0)
+
+-- an item that no list has: where none is at a place
+abbrev pub no_item : Item
+no_item = record { bytes = []; sts = record { 0 = 0 } }
+
+-- the STS given with the packet at place t
+abbrev pub sts_at : List Item → ℕ → Steps
+sts_at is t = (get_or (came is) t no_item).sts
 
 -- the packet at place t is the one that t others left before; none is there yet where too few have left
 abbrev pub packet_at : List (List ℕ) → ℕ → List ℕ

@@ -2,11 +2,11 @@
 use mathlib.Core.Path.{◌≡◌, refl, sym, ap, ap₂, ◌∙◌}
 use mathlib.Core.Bool.{Bool, true, false, cond}
 use mathlib.Core.List.{List, [], ◌++◌, append_assoc, append-nil}
-use Prim.Native.Nat.{ℕ, zero, suc, ◌+◌, ◌-◌, ◌*◌, ◌/◌, ◌≤◌, ◌<◌}
+use Prim.Native.Nat.{ℕ, zero, suc, ◌+◌, ◌-◌, ◌*◌, ◌≤◌, ◌<◌}
 use native.Mathlib.Nat.{zero-add}
 use native.Mathlib.Omega.{arith}
 use lib.Dec.{eqb}
-use lib.ListN.{length, take, drop, length-append, length-drop}
+use lib.ListN.{length, take, drop, length-drop}
 use lib.Seq.{take_all, take-append-le, drop-append-le, drop-drop}
 use borrow.Author.Tests.{eq-eqb, ne_eqb, le-leb, lt-leb, eqb-true, eqb-false}
 use Rattle.wire.specs.Reply.{refused}
@@ -38,6 +38,13 @@ pub answer_whole : (s : Inserter) (r : List ℕ) → length r ≡ record_length
     → answer_of s r ≡ insert_of s (drop sts_length r) (record { 0 = be32_at r 0 })
 unfolding answer_of
 answer_whole s r h = rw (eq-eqb (length r) record_length h)
+
+-- the inserter's answer to a whole record's packet
+pub answered : (s : Inserter) (r : List ℕ) {p : List ℕ} {sts : ℕ} {a : Handled} → length r ≡ record_length
+    → p ≡ take (length r - sts_length) (drop sts_length r) → sts ≡ be32_at r 0 → a ≡ insert_of s p (record { 0 = sts }) → a ≡ answer_of s r
+answered s r whole packet ticks answer =
+    let part : take (length r - sts_length) (drop sts_length r) ≡ drop sts_length r = take_all (length r - sts_length) (drop sts_length r) (omega (arith, length-drop sts_length r)) in
+    answer ∙ (λ j. insert_of s ((packet ∙ part) j) (record { 0 = ticks j })) ∙ sym (answer_whole s r whole)
 
 -- bytes that come later do not change the records that are whole
 pub behind_early : (k : ℕ) (s : Insertion) (i later : List ℕ) → record_length * k ≤ length i → behind k s (i ++ later) ≡ behind k s i

@@ -162,8 +162,8 @@ pub struct Begun {
 
 // Starts an inserter by the settings, and writes the line of a refusal.
 pub fn begin(head: &[u8], out: &mut [u8; OPENING_ROOM]) -> Begun
-    ensures begun { started result.insertion.inserter (reply_of result.reply) ≡ begun_by head.now }
-    ensures first { result.insertion ≡ first (begun_by head.now).inserter }
+    ensures reply { reply_of result.reply ≡ (begun_by head.now).reply }
+    ensures insertion { result.insertion ≡ first (begun_by head.now).inserter }
     ensures opening { Fronts (opened (begun_by head.now).reply) out.old out.new result.filled }
 {
     let mut inserter = Inserter {
@@ -291,7 +291,13 @@ impl Insertion {
 
     // A piece of an input stands in the first n bytes of `input`: writes the packets and the lines of its whole records, and moves what is left of it to
     // the front. An n beyond the input is the whole input.
-    pub fn take_piece(&mut self, n: usize, input: &mut [u8], out: &mut [u8], err: &mut [u8]) -> Taken
+    pub fn take_piece(
+        &mut self,
+        n: usize,
+        input: &mut [u8],
+        out: &mut [u8],
+        err: &mut [u8],
+    ) -> Taken
         ensures { TakesPiece self.old n input.old input.new out.old out.new err.old err.new self.new result }
     {
         let end = n.min(input.len());
