@@ -1,19 +1,21 @@
-/* vikombare.h - the timing slave of a transmitter in a single-frequency network. C11 or later, C++11 or later.
+/* vikombare.h - the timing slave of a transmitter in a single-frequency network, and the inserter of its head-end. C11 or later, C++11 or later.
  *
  * The slave reads the notices in a transport stream (profile 0: the Mega-frame Initialization Packet of DVB, ETSI TS 101 191; profile 1: ATSC A/110,
  * whose notices come as plain numbers), counts packets, and says when each mark goes on air.
  *
  * A call that moves a slave gets it by pointer and leaves the new one in its place; its result is the reply, or a number alone.
  *
+ * The inserter is the sending half, profile 0: it puts the notices into a stream at the head-end (INSERTING, below).
+ *
  * Each call of the library has a contract that is proved for every value of its arguments, and this text says it in words: there is no number that a call
  * does not answer, it never reads or writes outside what it was lent, and it always returns. What is up to the caller:
- *  - a pointer leads to as many bytes as the length beside it says, and is not null, also where that length is 0; a vikombare_slave pointer leads to one,
- *    and for a start or a resume to room for one, whatever it holds;
+ *  - a pointer leads to as many bytes as the length beside it says, and is not null, also where that length is 0; a vikombare_slave or vikombare_inserter
+ *    pointer leads to one, and for a start or a resume to room for one, whatever it holds;
  *  - memory that is lent for writing does not overlap what else is lent to the same call;
- *  - nobody else (thread, interrupt, DMA) writes what is lent, or uses a lent slave, while a call runs;
+ *  - nobody else (thread, interrupt, DMA) writes what is lent, or uses a lent slave or inserter, while a call runs;
  *  - a bool holds 0 or 1, as every C program sets it.
- * No call keeps a pointer, allocates, blocks or has a state of its own: all state is in the vikombare_slave that the caller owns, so different slaves
- * can be used from different threads at once.
+ * No call keeps a pointer, allocates, blocks or has a state of its own: all state is in the vikombare_slave or vikombare_inserter that the caller owns. So
+ * different slaves can be used from different threads at once, and two inserters never share anything.
  *
  * THE LIBRARY
  * libvikombare.a is built for x86-64 with the ABI of Linux (System V); for other processors there is none today. It asks for memset at most of the C
@@ -33,6 +35,15 @@
  * Where the number of packets that passed is not known, tell a gap of n. It drops the waiting notice, so that no mark is released before the next notice
  * is taken, and keeps the offset delay, frequency and power; until that notice do not rely on labels, on untimed marks or on `coasted`, nor on places until
  * a notice gives an index. Or start instead of resuming: a fresh slave hunts, and its offset delay, frequency and power are 0 until notices give them.
+ *
+ * INSERTING
+ * vikombare_inserter_start takes the settings; then each packet of the stream goes through vikombare_insert, in the order in which it is to go out, with the
+ * STS of the next mark: the time after the pulse at which the next packet with label 0 leaves. The packet with label 0 itself gets the STS of the mark n
+ * packets later. The first packet has label 0. The call leaves in the packet's own buffer what is to be sent.
+ * A packet that the call refuses with 15, 1, 2 or 11 is NOT to be sent: the inserter has not counted it, and if it goes out, the labels of all packets after
+ * it are one off at every transmitter, until the inserter is started anew. A packet with 21 (VIKOMBARE_NO_NULL_PACKET) IS to be sent, and is counted: its
+ * mega-frame ended without a null packet, and so has no notice. If one is left out, the labels are off likewise.
+ * After 15 the inserter is as it was and refuses every packet: start it again. The sites then find a slip with its next notice.
  *
  * AN UPDATE FROM BEFORE 4.0
  * A block that was saved before 4.0 has 38 bytes and resumes as it did; `coasted`, which it does not have, is 255. Lend it without a byte behind it. Where it
@@ -56,9 +67,9 @@ extern "C" {
 /* The version of this interface. MAJOR rises where a program has to be changed or compiled anew, MINOR where it has not: something is added, or a call
  * gives another value. 2.1: a time that was a whole second is 0. 3.0: a late mark says how late it is, and its kind in which unit. 3.1: to
  * vikombare_packet, a packet of no bytes is one that was lost; before, it was refused with 1. 3.2: vikombare_packet_within, vikombare_read_within, and 26.
- * 4.0: a slave counts the marks that it coasted over, in a byte that was padding, and a saved block has 39 bytes. */
+ * 4.0: a slave counts the marks that it coasted over, in a byte that was padding, and a saved block has 39 bytes. 4.1: the inserter, and 21. */
 #define VIKOMBARE_VERSION_MAJOR 4
-#define VIKOMBARE_VERSION_MINOR 0
+#define VIKOMBARE_VERSION_MINOR 1
 
 /* An answer that must not be thrown away: it says what to do. The compiler warns where one is. */
 #if (defined(__cplusplus) && __cplusplus >= 201703L) || (defined(__STDC_VERSION__) && __STDC_VERSION__ >= 202311L)
@@ -69,7 +80,7 @@ extern "C" {
 #define VIKOMBARE_KEEP
 #endif
 
-/* The numbers that a call refuses with: the first that applies, in the order given at each call. The numbers are document 01's, and 26 document 02's. */
+/* The numbers that a call refuses with: the first that applies, in the order given at each call. The numbers are document 01's, and 21 and 26 document 02's. */
 enum {
     VIKOMBARE_ACCEPTED = 0,
     VIKOMBARE_REFUSED_LENGTH = 1,             /* the packet does not have 188 bytes; for the packet calls (vikombare_packet and
@@ -84,17 +95,20 @@ enum {
     VIKOMBARE_REFUSED_SECTION_LENGTH = 8,     /* the section length is not 19 + a, where a is the addressing field's length, or a is above 163 */
     VIKOMBARE_REFUSED_CHECK_VALUE = 9,        /* the check value */
     VIKOMBARE_REFUSED_ADDRESSING = 10,        /* the form of the addressing field */
-    VIKOMBARE_REFUSED_TIME = 11,              /* STS or MD is a whole second or more */
+    VIKOMBARE_REFUSED_TIME = 11,              /* STS or MD is a whole second or more; for vikombare_insert the STS given, on every packet */
     VIKOMBARE_REFUSED_POINTER = 12,           /* the pointer is not below n; the index is not 0 to 19 or 255 */
     VIKOMBARE_REFUSED_DELAY = 13,             /* MD + OD is not in 0 to a second - 1; in profile 1 also MD + OD + TAD not in 1 to a second - 1. OD is the one
                                                  in force once the notice is taken */
     VIKOMBARE_REFUSED_LATE = 14,              /* a mark's own number, beside the notice's: see VIKOMBARE_MARK_DVB_LATE, _A110_LATE */
-    VIKOMBARE_REFUSED_COLD = 15,              /* the settings are outside the limits; or the slave handed in is cold, or none that an accepted call gives */
+    VIKOMBARE_REFUSED_COLD = 15,              /* the settings are outside the limits; or the slave handed in is cold, or none that an accepted call gives; or
+                                                 a part of the inserter handed in is out of its range */
     VIKOMBARE_REFUSED_BLOCK = 16,             /* the saved block's shape, check value, phase or ranges; a pending notice in it that 13 refuses */
     VIKOMBARE_REFUSED_BOARD = 17,             /* a sound block, but of another site, profile, n or TAD */
     VIKOMBARE_REFUSED_ROOM = 18,              /* the output has under 188 bytes (write) or 39 (save) */
-    VIKOMBARE_REFUSED_FIELD = 19,             /* continuity above 15 or reserved above 32767 */
+    VIKOMBARE_REFUSED_FIELD = 19,             /* continuity above 15 or reserved above 32767; for vikombare_inserter_start, periodic above 1 too */
     VIKOMBARE_REFUSED_PROFILE = 20,           /* a numbers notice for a slave of profile 0 */
+    VIKOMBARE_NO_NULL_PACKET = 21,            /* no refusal: vikombare_insert gives it with the last packet of a mega-frame without a null packet, which is
+                                                 to be sent as any other */
     VIKOMBARE_REFUSED_LIMIT = 26              /* the addressing field is above the limit that the call gives (vikombare_packet_within and
                                                  vikombare_read_within only); after 8 and before 9, so whatever the check value is */
 };
@@ -274,6 +288,30 @@ typedef struct {
     size_t addressing; /* bytes of the addressing field, which is packet[21] and on */
 } vikombare_reading;
 
+/* The settings of an inserter, beside its addressing field. */
+typedef struct {
+    uint16_t n;          /* packets in a mega-frame */
+    uint8_t periodic;    /* 0 or 1; a number and no bool, so that an inserter that was damaged is safe to hand in */
+    uint16_t reserved;   /* 15 bits, sent unchanged */
+    vikombare_steps md;  /* maximum delay */
+    uint32_t tps;        /* sent unchanged */
+} vikombare_inserter_settings;
+
+/* Where an inserter stands in its mega-frame. */
+typedef struct {
+    uint16_t label;     /* of the next packet that is sent */
+    uint8_t placed;     /* 1 where this mega-frame has its notice */
+    uint8_t continuity; /* of the next notice */
+} vikombare_inserter_progress;
+
+/* An inserter. Copy it, keep it, read it; only the calls below change it. It has bytes of padding, and bytes of `field` from `length` on are not read. */
+typedef struct {
+    vikombare_inserter_settings settings;
+    vikombare_inserter_progress progress;
+    uint8_t length; /* bytes of the addressing field, 0 to VIKOMBARE_LONGEST_ADDRESSING */
+    uint8_t field[VIKOMBARE_LONGEST_ADDRESSING];
+} vikombare_inserter;
+
 /* The library's own sizes and places: a compiler that lays a struct out otherwise does not get past here. */
 #ifdef __cplusplus
 #define VIKOMBARE_HOLDS(what) static_assert(what, #what)
@@ -298,6 +336,10 @@ VIKOMBARE_HOLDS(sizeof(vikombare_reply) == 48 && offsetof(vikombare_reply, place
 VIKOMBARE_HOLDS(sizeof(vikombare_numbers_notice) == 16 && offsetof(vikombare_numbers_notice, od) == 12);
 VIKOMBARE_HOLDS(sizeof(vikombare_notice) == 20 && offsetof(vikombare_notice, sts) == 8 && offsetof(vikombare_notice, tps) == 16);
 VIKOMBARE_HOLDS(sizeof(vikombare_reading) == 32 && offsetof(vikombare_reading, notice) == 4 && offsetof(vikombare_reading, addressing) == 24);
+VIKOMBARE_HOLDS(sizeof(vikombare_inserter_settings) == 16 && offsetof(vikombare_inserter_settings, periodic) == 2);
+VIKOMBARE_HOLDS(offsetof(vikombare_inserter_settings, reserved) == 4 && offsetof(vikombare_inserter_settings, md) == 8);
+VIKOMBARE_HOLDS(sizeof(vikombare_inserter_progress) == 4 && offsetof(vikombare_inserter_progress, continuity) == 3);
+VIKOMBARE_HOLDS(sizeof(vikombare_inserter) == 184 && offsetof(vikombare_inserter, progress) == 16 && offsetof(vikombare_inserter, field) == 21);
 #undef VIKOMBARE_HOLDS
 
 /* Starts a slave: hunting, nothing pending. What *slave held is overwritten, also where the call refuses, and need not be initialised. n is one of the
@@ -357,6 +399,20 @@ VIKOMBARE_KEEP vikombare_reading vikombare_read_within(const uint8_t *packet, si
  * in out: to write a packet anew in its place, copy its field first. Order: 18, 19, 8 (an addressing field of more than 163 bytes), 10, 11; each keeps
  * every byte of out. The writer knows no n and no reader's limit, and writes every pointer as given. */
 VIKOMBARE_KEEP uint8_t vikombare_write(uint8_t *out, size_t out_length, vikombare_notice notice, const uint8_t *addressing, size_t addressing_length);
+
+/* Starts an inserter, whose first packet has label 0 and whose first notice has continuity 0; each next notice has one more, 15 to 0. What *inserter held is
+ * overwritten, also where the call refuses, and need not be initialised; the addressing field must not lie in it. n is one of the cadences of profile 0, as for
+ * vikombare_dvb_start. Order: 15 (n), 19, 8 (an addressing field of more than 163 bytes), 10, 11 (MD); each leaves an inserter of zeros, which refuses every
+ * packet with 15. */
+VIKOMBARE_KEEP uint8_t vikombare_inserter_start(vikombare_inserter *inserter, vikombare_inserter_settings settings, const uint8_t *addressing,
+                                                size_t addressing_length);
+
+/* Takes the stream's next packet, with the STS of the next mark, and leaves in its place what is to be sent: the notice for the first null packet (PID 0x1FFF)
+ * of each mega-frame, and every other packet as it came. A packet that comes with the notice's PID, 0x0015, is made a null packet before that (47 1F FF 10,
+ * then 184 of 0xFF). PIDs alone decide, also where the error indicator is set. Order: 15, 1, 2, 11 of the STS given, on every packet; each keeps the inserter
+ * and the packet, which is not to be sent. Then the packet is to be sent: 0, or 21 with the last packet of a mega-frame in which no null packet came. INSERTING,
+ * above, says more. */
+VIKOMBARE_KEEP uint8_t vikombare_insert(vikombare_inserter *inserter, uint8_t *packet, size_t length, vikombare_steps sts);
 
 #ifdef __cplusplus
 }

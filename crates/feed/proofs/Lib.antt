@@ -5,3 +5,4 @@ pub mod Sending
 pub mod Places
 pub mod Hearing
 pub mod Network
+pub mod Examples

@@ -146,7 +146,7 @@ module _ (t : Settings) (f : List ℕ) (is : List Item) (k : Startable t f) wher
 pub network : (t : Settings) (f : List ℕ) (is : List Item) → Startable t f → Network t f is
 network t f is k =
     record {
-      counts = λ before after e.
+      counts = λ before.
           ap (λ (s : Inserter). s.progress.label) (after_is (begun t f) (begun_sound t f k.accepted) before)
           ∙ label_behind t.n (begun t f) refl 0 (sym (mod-eq_of_lt (packets_some t f is k))) (came before) ∙ ap (label_at t.n) (omega arith);
       notices = notice_there t f is k;

@@ -1,5 +1,5 @@
 -- The inserter as the adapter of a network (document 02, Paper 1; document 01, "Runs"; demand 3).
-use Rattle.std.specs.Prelude.{◌≡◌, ℕ, suc, ◌+◌, ◌*◌, ◌/◌, ◌%◌, ◌^◌, ◌≤◌, ◌<◌, true, cond, List, [], ◌∷◌, ◌++◌, length}
+use Rattle.std.specs.Prelude.{◌≡◌, ℕ, suc, ◌+◌, ◌*◌, ◌/◌, ◌%◌, ◌^◌, ◌≤◌, ◌<◌, true, cond, List, [], ◌∷◌, length}
 use Rattle.std.proofs.Math.Option.{Option, none, some}
 use Rattle.wire.specs.Reply.{given}
 use Rattle.cadence.specs.Label.{label_at, next_label}
@@ -72,8 +72,8 @@ OwnLabel t f is p s a =
 -- ---- the network of an inserter that these settings start
 
 pub record Network (t : Settings) (f : List ℕ) (is : List Item) : Type 0 where
-  -- the label that it counts, after any of the calls, is that of the next packet's place
-  pub counts : (before after : List Item) → is ≡ before ++ after → (inserter_after (begun t f) before).progress.label ≡ label_at t.n (length (came before))
+  -- the label that it counts, after any calls, is that of the next packet's place
+  pub counts : (before : List Item) → (inserter_after (begun t f) before).progress.label ≡ label_at t.n (length (came before))
   -- every packet with the MIP's PID that it sends is such a notice, and the adapter has no other
   pub notices : (p : ℕ) → is_mip (packet_at (packets (begun t f) is) p) ≡ true → NoticeAt t f is p
   pub no_other : (k : ℕ) (a : Announced) → adapter_of t is k ≡ some a → is_mip (packet_at (packets (begun t f) is) (t.n * k + a.label)) ≡ true

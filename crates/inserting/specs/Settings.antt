@@ -15,6 +15,10 @@ field_length h = get_or h 13 0
 abbrev pub settings_length : List ℕ → ℕ
 settings_length h = numbers_length + field_length h
 
+-- the most that settings ask for
+abbrev pub settings_room : ℕ
+settings_room = numbers_length + 255
+
 abbrev pub settings_in : List ℕ → Settings
 settings_in h =
     record { n = be16_at h 0; periodic = get_or h 2 0; reserved = be16_at h 3; md = record { 0 = be32_at h 5 }; tps = be32_at h 9 }

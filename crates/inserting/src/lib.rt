@@ -10,7 +10,7 @@ ghost use Rattle.inserter.specs.Packet.{handled, passed_of};
 ghost use Rattle.text.specs.Puts.{Fronts, Puts};
 ghost use Rattle.text.specs.Decimal.{decimal, most_digits};
 ghost use Rattle.inserting.specs.Words.{between, between_room, record_line, mega_frame_line, line_room};
-ghost use Rattle.inserting.specs.Settings.{settings_length, settings_in, field_in, begun_by};
+ghost use Rattle.inserting.specs.Settings.{settings_length, settings_room, settings_in, field_in, begun_by};
 ghost use Rattle.inserting.specs.Records.{record_length, next, first, opened, counted_by, sent_by, line_by, insertion_after, packet_of, line_of};
 ghost use Rattle.inserting.specs.Pieces.{handled_in, Handled, TakesPiece, ending_of};
 
@@ -109,7 +109,8 @@ fn settings_in(head: &[u8]) -> Settings
 
 // How many bytes the settings are that begin so.
 pub fn settings_length(head: &[u8]) -> usize
-    ensures { result ≡ settings_length head.now }
+    ensures length { result ≡ settings_length head.now }
+    ensures most { result ≤ settings_room }
 {
     NUMBERS_LENGTH + usize::from(wire::byte_at(head, NUMBERS_LENGTH - 1))
 }
