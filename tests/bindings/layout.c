@@ -81,5 +81,20 @@ int main(void)
     FIELD(reading, number);
     FIELD(reading, notice);
     FIELD(reading, addressing);
+    STRUCT(inserter_settings);
+    FIELD(inserter_settings, n);
+    FIELD(inserter_settings, periodic);
+    FIELD(inserter_settings, reserved);
+    FIELD(inserter_settings, md);
+    FIELD(inserter_settings, tps);
+    STRUCT(inserter_progress);
+    FIELD(inserter_progress, label);
+    FIELD(inserter_progress, placed);
+    FIELD(inserter_progress, continuity);
+    STRUCT(inserter);
+    FIELD(inserter, settings);
+    FIELD(inserter, progress);
+    FIELD(inserter, length);
+    FIELD(inserter, field);
     return 0;
 }

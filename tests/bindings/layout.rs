@@ -8,6 +8,7 @@ mod bindings;
 #[path = "../other/mod.rs"]
 mod other;
 
+use bindings::inserter::{CInserter, CInserterProgress, CInserterSettings};
 use bindings::slave::{CBoard, CCount, CSettings, CSlave, CWaiting};
 use bindings::vikombare::{CNotice, CNumbers, CReading, Mark, Periods, Reply, Steps, Tick, Times};
 
@@ -27,4 +28,7 @@ fn main() {
     CNumbers::layout("numbers_notice");
     CNotice::layout("notice");
     CReading::layout("reading");
+    CInserterSettings::layout("inserter_settings");
+    CInserterProgress::layout("inserter_progress");
+    CInserter::layout("inserter");
 }

@@ -23,6 +23,7 @@ macro_rules! c_struct {
 }
 
 pub mod answers;
+pub mod inserter;
 pub mod probe;
 pub mod slave;
 pub mod vikombare;

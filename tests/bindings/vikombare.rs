@@ -1,6 +1,7 @@
 //! The calls that a board links, as crate `vikombare` exports them. A slice is passed as its address and its length; a board's profile chooses its
 //! start and its resume.
 
+use super::inserter::{CInserter, CInserterSettings};
 use super::slave::CSlave;
 use crate::other::{basics, slave::Numbers};
 use std::mem::MaybeUninit;
@@ -91,6 +92,8 @@ extern "C" {
     fn vikombare_read(packet: *const u8, length: usize) -> CReading;
     fn vikombare_read_within(packet: *const u8, length: usize, limit: usize) -> CReading;
     fn vikombare_write(out: *mut u8, out_length: usize, notice: CNotice, addressing: *const u8, addressing_length: usize) -> u8;
+    fn vikombare_inserter_start(inserter: *mut CInserter, settings: CInserterSettings, addressing: *const u8, addressing_length: usize) -> u8;
+    fn vikombare_insert(inserter: *mut CInserter, packet: *mut u8, length: usize, sts: Steps) -> u8;
 }
 
 // No call has a condition on its arguments, so each is safe to call.
@@ -186,4 +189,16 @@ pub fn write(out: &mut [u8], n: &basics::Notice, field: &[u8]) -> u8 {
     let [sts, md] = [sts, md].map(|steps| Steps { steps });
     let notice = CNotice { continuity, pointer, periodic, reserved, sts, md, tps };
     unsafe { vikombare_write(out.as_mut_ptr(), out.len(), notice, field.as_ptr(), field.len()) }
+}
+
+/// Starts an inserter in this memory, whatever it holds.
+#[inline(always)]
+pub fn inserter_start(inserter: &mut CInserter, settings: CInserterSettings, field: &[u8]) -> u8 {
+    unsafe { vikombare_inserter_start(inserter, settings, field.as_ptr(), field.len()) }
+}
+
+/// A packet in place, with the STS of the next mark.
+#[inline(always)]
+pub fn insert(inserter: &mut CInserter, p: &mut [u8], sts: u32) -> u8 {
+    unsafe { vikombare_insert(inserter, p.as_mut_ptr(), p.len(), Steps { steps: sts }) }
 }

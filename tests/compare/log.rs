@@ -1,15 +1,13 @@
 //! What the log program prints compared, byte for byte, over random captures in pipes of many sizes.
 
 use super::comparison::{Cases, Compared, Comparison, Difference, Subject};
+use super::pipes::{self, Delivery};
 use super::shrink;
 use crate::inputs::notices;
 use crate::inputs::random::Random;
 use crate::other::basics::{self, dvb_cadences, second, Notice};
 use crate::other::faults::{self, Fault};
 use crate::other::log::{log, RECORD, SETTINGS};
-use std::io::{Read, Write};
-use std::os::fd::{AsRawFd, RawFd};
-use std::process::{ChildStdin, Command, Stdio};
 
 const PROGRAM: &str = "target/bin/log";
 
@@ -141,84 +139,6 @@ fn capture(r: &mut Random) -> Vec<u8> {
     capture
 }
 
-// ---- Pipes
-
-/// How a capture reaches the program.
-#[derive(Clone, Copy, Debug)]
-enum Delivery {
-    /// So many bytes at a time, each piece read before the next is written.
-    Pieces(usize),
-    /// Pieces of random sizes up to this one.
-    Random(usize),
-}
-
-extern "C" {
-    fn ioctl(fd: i32, request: u64, argument: *mut i32) -> i32;
-}
-
-/// How many bytes of a pipe are not read yet.
-fn unread(pipe: RawFd) -> i32 {
-    const FIONREAD: u64 = 0x541B;
-    let mut bytes = 0;
-    // The call writes one int, and the descriptor is open.
-    unsafe { ioctl(pipe, FIONREAD, &mut bytes) };
-    bytes
-}
-
-fn deliver(mut pipe: ChildStdin, capture: &[u8], delivery: Delivery, r: &mut Random) {
-    let mut rest = capture;
-    while !rest.is_empty() {
-        let size = match delivery {
-            Delivery::Pieces(size) => size,
-            Delivery::Random(most) => 1 + r.below(most),
-        };
-        let (piece, after) = rest.split_at(size.min(rest.len()));
-        // A program that refuses the settings stops reading.
-        if pipe.write_all(piece).is_err() {
-            return;
-        }
-        while !after.is_empty() && unread(pipe.as_raw_fd()) > 0 {
-            std::thread::yield_now();
-            if pipe_closed(&mut pipe) {
-                return;
-            }
-        }
-        rest = after;
-    }
-}
-
-/// Nobody reads the pipe any more.
-fn pipe_closed(pipe: &mut ChildStdin) -> bool {
-    extern "C" {
-        fn poll(fds: *mut PollFd, count: u64, timeout: i32) -> i32;
-    }
-    #[repr(C)]
-    struct PollFd {
-        fd: i32,
-        events: i16,
-        found: i16,
-    }
-    const POLLERR: i16 = 8;
-    let mut asked = PollFd { fd: pipe.as_raw_fd(), events: 0, found: 0 };
-    // One entry is lent, and the count says so.
-    unsafe { poll(&mut asked, 1, 0) };
-    asked.found & POLLERR != 0
-}
-
-/// What the program prints.
-fn printed(capture: &[u8], delivery: Delivery, r: &mut Random) -> Vec<u8> {
-    let mut child = Command::new(PROGRAM).stdin(Stdio::piped()).stdout(Stdio::piped()).spawn().expect("the program starts");
-    let (pipe, mut output) = (child.stdin.take().unwrap(), child.stdout.take().unwrap());
-    let mut random = Random(r.next() | 1);
-    let mut printed = Vec::new();
-    std::thread::scope(|scope| {
-        scope.spawn(|| deliver(pipe, capture, delivery, &mut random));
-        output.read_to_end(&mut printed).expect("the program's output is read");
-    });
-    child.wait().expect("the program ends");
-    printed
-}
-
 // ---- Comparing
 
 /// Counts what a log has.
@@ -272,14 +192,9 @@ fn joined(notice: &[u8]) -> Option<Vec<u8>> {
     Some([tick, &nearer].concat())
 }
 
-fn delivery(r: &mut Random, length: usize) -> Delivery {
-    match r.below(6) {
-        0 if length < 8_000 => Delivery::Pieces(1),
-        0 | 1 => Delivery::Pieces(191),
-        2 => Delivery::Pieces(192),
-        3 => Delivery::Random(5_000),
-        _ => Delivery::Pieces(1 << 20),
-    }
+/// What the program prints; on standard error there is nothing.
+fn printed(capture: &[u8], how: Delivery, r: &mut Random) -> Vec<u8> {
+    pipes::printed(PROGRAM, capture, how, r).concat()
 }
 
 impl Comparison<Captures> {
@@ -287,7 +202,7 @@ impl Comparison<Captures> {
         self.calls += 1;
         let r = &mut self.random;
         let capture = capture(r);
-        let how = delivery(r, capture.len());
+        let how = pipes::delivery(r, capture.len());
         let (ours, other) = (printed(&capture, how, r), log(&capture));
         if ours != other {
             return Err(self.shortened_capture(&capture, how));

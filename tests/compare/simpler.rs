@@ -122,7 +122,7 @@ fn simpler_bytes(lent: &Lent) -> Vec<Lent> {
 }
 
 /// The null packet; a MIP with no addressing or with a smaller field, its check value made right where it was; 0xFF where the section has ended.
-fn simpler_packets(lent: &Lent) -> Vec<Lent> {
+pub fn simpler_packets(lent: &Lent) -> Vec<Lent> {
     let bytes = lent.bytes();
     let mut simpler = Vec::new();
     if !lent.is_alone() {

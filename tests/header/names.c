@@ -1,6 +1,6 @@
 /* Holds each name of include/vikombare.h to an input of its kind: a refusal by the example that document 01's table has for it, and the phases, the kinds
- * of mark and what becomes of a notice; how late a mark was, in each profile; a reader's limit; the marks coasted and the blocks of two releases. The same
- * file is C11 and C++11. */
+ * of mark and what becomes of a notice; how late a mark was, in each profile; a reader's limit; the marks coasted and the blocks of two releases; an
+ * inserter's numbers, and what it sends. The same file is C11 and C++11. */
 #include <stdio.h>
 #include <string.h>
 
@@ -210,6 +210,83 @@ static void blocks(void)
     HOLD(VIKOMBARE_PHASE_HUNTING, slave.count.phase);
 }
 
+/* An inserter of N from its start over two mega-frames, the first with a null packet and a notice of another adapter, the second with neither; and what it
+ * refuses. */
+static void inserting(void)
+{
+    static const uint8_t field[VIKOMBARE_LONGEST_ADDRESSING + 1] = {0, SITE, 4, 0, 4, 0xFF, 0xCD};
+    vikombare_inserter_settings settings = {N, 1, 32767, {700000}, 0x81160000};
+    vikombare_steps sts = {9500000}, late = {VIKOMBARE_DVB_SECOND};
+    vikombare_inserter inserter, damaged;
+    vikombare_slave slave;
+    vikombare_reading reading;
+    uint8_t packet[PACKET], plain[PACKET];
+    unsigned label, moved = 0;
+
+    memcpy(plain, null, PACKET);
+    plain[1] = 1;
+    settings.n = 624;
+    HOLD(VIKOMBARE_REFUSED_COLD, vikombare_inserter_start(&inserter, settings, field, 7));
+    settings.n = N;
+    settings.periodic = 2;
+    HOLD(VIKOMBARE_REFUSED_FIELD, vikombare_inserter_start(&inserter, settings, field, 7));
+    settings.periodic = 1;
+    HOLD(VIKOMBARE_REFUSED_SECTION_LENGTH, vikombare_inserter_start(&inserter, settings, field, VIKOMBARE_LONGEST_ADDRESSING + 1));
+    HOLD(VIKOMBARE_REFUSED_ADDRESSING, vikombare_inserter_start(&inserter, settings, field, 2));
+    settings.md = late;
+    HOLD(VIKOMBARE_REFUSED_TIME, vikombare_inserter_start(&inserter, settings, field, 7));
+    hold("what a refused start leaves", 0, (unsigned)(inserter.settings.n | inserter.length | inserter.field[1]));
+    settings.md.steps = 700000;
+    HOLD(VIKOMBARE_ACCEPTED, vikombare_inserter_start(&inserter, settings, field, 7));
+    HOLD(VIKOMBARE_ACCEPTED, vikombare_dvb_start(&slave, N, SITE, NONE));
+    hold("the field's length", 7, inserter.length);
+    hold("the last byte of the field", 0xCD, inserter.field[6]);
+    hold("behind the field", 0, inserter.field[7]);
+    memcpy(packet, null, PACKET);
+    HOLD(VIKOMBARE_REFUSED_LENGTH, vikombare_insert(&inserter, packet, 187, sts));
+    HOLD(VIKOMBARE_REFUSED_TIME, vikombare_insert(&inserter, packet, PACKET, late));
+    hold("a refused packet", 0, (unsigned)(memcmp(packet, null, PACKET) != 0));
+    packet[0] = 0x46;
+    HOLD(VIKOMBARE_REFUSED_SYNC_BYTE, vikombare_insert(&inserter, packet, PACKET, sts));
+    hold("the label behind it", 0, inserter.progress.label);
+    for (label = 0; label < N; label++) {
+        /* null packets from label 5 on, and another adapter's notice on label 7 */
+        memcpy(packet, label < 5 ? plain : null, PACKET);
+        packet[2] = label == 7 ? 0x15 : packet[2];
+        packet[1] = label == 7 ? 0x60 : packet[1];
+        HOLD(VIKOMBARE_ACCEPTED, vikombare_insert(&inserter, packet, PACKET, sts));
+        moved += memcmp(packet, label < 5 ? plain : null, PACKET) != 0;
+        if (label == 5) {
+            reading = vikombare_read(packet, PACKET);
+            HOLD(VIKOMBARE_ACCEPTED, reading.number);
+            hold("the notice's pointer", N - 1 - 5, reading.notice.pointer);
+            hold("the notice's STS", sts.steps, reading.notice.sts.steps);
+            hold("the notice's reserved bits", settings.reserved, reading.notice.reserved);
+            hold("the counter of the next notice", 1, inserter.progress.continuity);
+            hold("the notice is put", 1, inserter.progress.placed);
+            HOLD(VIKOMBARE_NOTICE_TAKEN, heard(&slave, packet, 5).notice);
+        } else if (label > 5) {
+            hold("the slave's label", label, heard(&slave, packet, 5).label);
+        }
+    }
+    hold("packets that were changed", 1, moved);
+    hold("the next mega-frame's label", 0, inserter.progress.label);
+    hold("its notice", 0, inserter.progress.placed);
+    for (label = 0; label < N - 1; label++) {
+        memcpy(packet, plain, PACKET);
+        HOLD(VIKOMBARE_ACCEPTED, vikombare_insert(&inserter, packet, PACKET, sts));
+    }
+    memcpy(packet, plain, PACKET);
+    HOLD(VIKOMBARE_NO_NULL_PACKET, vikombare_insert(&inserter, packet, PACKET, sts));
+    hold("the last of a mega-frame without a null packet", 0, (unsigned)(memcmp(packet, plain, PACKET) != 0));
+    hold("the counter of a mega-frame without a notice", 1, inserter.progress.continuity);
+    hold("the label behind the mega-frame", 0, inserter.progress.label);
+    damaged = inserter;
+    damaged.progress.label = N;
+    HOLD(VIKOMBARE_REFUSED_COLD, vikombare_insert(&damaged, packet, PACKET, sts));
+    hold("what 15 leaves", N, damaged.progress.label);
+}
+
 int main(void)
 {
     memset(null, 0xFF, PACKET);
@@ -220,6 +297,7 @@ int main(void)
     kinds();
     limits();
     blocks();
+    inserting();
     if (wrong == 0)
         printf("%d answers are as named\n", tried);
     return wrong != 0;

@@ -80,10 +80,15 @@ impl Lent {
     }
 
     /// What a call writes into the bytes: its number and the whole room after it.
-    fn written(&self, call: impl FnOnce(&mut [u8]) -> u8) -> Said {
+    pub fn after(&self, call: impl FnOnce(&mut [u8]) -> u8) -> (u8, Hex) {
         let mut room = self.room.clone();
         let number = call(&mut room[self.from..self.to]);
-        Said::Written(number, Hex(room))
+        (number, Hex(room))
+    }
+
+    fn written(&self, call: impl FnOnce(&mut [u8]) -> u8) -> Said {
+        let (number, room) = self.after(call);
+        Said::Written(number, room)
     }
 }
 

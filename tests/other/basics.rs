@@ -143,10 +143,20 @@ pub fn write_with(register: impl Fn(&[u8]) -> u32, out: &mut [u8], notice: &Noti
     if rule(false, FormBeforeLength, true) {
         check_form(field)?;
     }
-    let a = field.len();
-    refuse(8, a > 163)?;
+    refuse(8, field.len() > 163)?;
     check_form(field)?;
     refuse(11, notice.out_of_range())?;
+    put(register, p, notice, field);
+    if rule(false, TailStuffed, true) {
+        tail.fill(0xFF);
+    }
+    Ok(())
+}
+
+/// What an accepted write puts in the 188 bytes.
+#[inline(always)]
+pub fn put(register: impl Fn(&[u8]) -> u32, p: &mut [u8], notice: &Notice, field: &[u8]) {
+    let a = field.len();
     p[..6].copy_from_slice(&[0x47, 0x60, 0x15, 0x10 | notice.continuity, 0, 19 + a as u8]);
     p[6..8].copy_from_slice(&notice.pointer.to_be_bytes());
     p[8..10].copy_from_slice(&(u16::from(notice.periodic) << 15 | notice.reserved).to_be_bytes());
@@ -158,10 +168,6 @@ pub fn write_with(register: impl Fn(&[u8]) -> u32, out: &mut [u8], notice: &Noti
     let check = register(&p[..21 + a]);
     p[21 + a..25 + a].copy_from_slice(&check.to_be_bytes());
     p[25 + a..].fill(rule(0xFF, StuffingOfZeros, 0));
-    if rule(false, TailStuffed, true) {
-        tail.fill(0xFF);
-    }
-    Ok(())
 }
 
 // ---- Addressing (TS 101 191, tables 1 and 6 to 10; 01, "Addressing")
@@ -174,7 +180,7 @@ pub struct Settings {
 }
 
 /// The form alone (number 10), which is judged for every entry, whoever it is addressed to.
-fn check_form(field: &[u8]) -> Result<(), u8> {
+pub fn check_form(field: &[u8]) -> Result<(), u8> {
     settings(field, 0, Settings::default()).map(|_| ())
 }
 

@@ -5,6 +5,8 @@
 
 pub mod basics;
 pub mod faults;
+pub mod insert;
+pub mod inserter;
 pub mod log;
 pub mod saved;
 pub mod slave;

@@ -86,7 +86,7 @@ const ENTRIES: [u8; 56] = [
 ];
 
 /// A field of a bytes: one private function, whose body counts 0, 1, 2 and on.
-fn private(a: u8, check: [u8; 4]) -> Vec<u8> {
+pub fn private(a: u8, check: [u8; 4]) -> Vec<u8> {
     let mut bytes = PLAIN[..21].to_vec();
     (bytes[5], bytes[20]) = (19 + a, a);
     bytes.extend([0x00, 0x07, a - 3, 0x03, a - 3]);

@@ -1,6 +1,7 @@
 //! Vectors: the papers' examples, published values, and notices and blocks made by hand, each by a call of the proved code.
 //! It prints one line for each: a name, the input in short, and what the call gave. tests/vectors/vectors.txt has what the papers say, reckoned by hand from
-//! documents 01 and 02 and TS 101 191; the two must be the same. After a slave's call stand the parts of the slave that it changed.
+//! documents 01 and 02 and TS 101 191; the two must be the same. After a slave's call stand the parts of the slave that it changed, and after an inserter's
+//! those of the inserter.
 //!
 //! vectors        the proved code
 //! vectors other  the other implementation
@@ -15,33 +16,40 @@ mod inputs;
 mod other;
 
 mod basics;
+mod inserter;
 mod slave;
 
 use bindings::answers::{Change, Reading};
 use bindings::probe;
 use bindings::vikombare::{Mark, Reply, Times};
 use inputs::calls::{self, Board, Call, Code, Form, Lent, Limit, Outcome, Said};
+use inputs::inserters;
 use inputs::moments::Moment;
 use inputs::notices;
 use inputs::random::Hex;
 use other::basics::{Notice, Settings};
+use other::inserter::{Inserter, ZEROS};
 use other::slave::{Numbers, Slave, COLD};
 
 fn main() {
     let proved = std::env::args().nth(1).is_none();
     let code: Code = if proved { calls::ours } else { calls::other };
-    let v = &mut Vectors { proved, code, slave: COLD, handed: None, described: Vec::new() };
+    let insert_code: inserters::Code = if proved { inserters::ours } else { inserters::other };
+    let v = &mut Vectors { proved, code, insert_code, slave: COLD, inserter: ZEROS, handed: None, described: Vec::new() };
     println!("name | input | output");
     basics::all(v);
     slave::all(v);
+    inserter::all(v);
 }
 
-/// One implementation, and the slave that its last call left.
+/// One implementation, and the slave and the inserter that their last calls left.
 struct Vectors {
     proved: bool,
     code: Code,
+    insert_code: inserters::Code,
     slave: Slave,
-    /// The name of a slave that was handed in for the next call.
+    inserter: Inserter,
+    /// The name of a slave or an inserter that was handed in for the next call.
     handed: Option<String>,
     /// The names of those that were described.
     described: Vec<String>,
