@@ -31,8 +31,12 @@ library() {
     proving lib "$1" && cp "crates/$1/out/lib$1.a" target/staticlib/ && echo "target/staticlib/lib$1.a is built"
 }
 
-# program: the log program as target/bin/log, proved.
+# program NAME: target/bin/NAME, proved. The log program's crate is capture_log; any other program has its crate's name.
 program() {
+    case $1 in
+    log) made=capture_log ;;
+    *) made=$1 ;;
+    esac
     mkdir -p target/bin
-    proving run capture_log && cp crates/capture_log/out/capture_log target/bin/log && echo "target/bin/log is built"
+    proving run "$made" && cp "crates/$made/out/$made" "target/bin/$1" && echo "target/bin/$1 is built"
 }

@@ -227,8 +227,8 @@ module _ (t : Settings) (f : List ℕ) (e : settings_refusal t f ≡ 0) (is : Li
   pub places : length (packets (begun t f) is) ≡ length (came is)
   places = ap length all_sent ∙ length-map (sends (begun t f) (came is)) (λ h. h.bytes) ∙ sends_length (begun t f) (came is)
 
-  pub sending : Sends t f is
-  sending =
+  pub stream_sent : Sends t f is
+  stream_sent =
       record {
         places = places;
         frames = frames;

@@ -93,6 +93,7 @@ fn notice_at(t: Settings, label: u16, continuity: u8, sts: Steps) -> Notice
 
 // 15, 19, 8, 10 and 11, of an inserter's settings and its addressing field.
 #[tactic(auto, unfolding(crate::specs::Settings::settings_refusal), using(crate::proofs::Judged::some_packets))]
+#[inline(always)]
 fn check_settings(t: Settings, field: &[u8]) -> Result<(), Refusal>
     ensures numbers { reply_of result ≡ reply (settings_refusal t field.now) tt }
     ensures short { OnOk result (length field.now ≤ longest_addressing) }
@@ -155,6 +156,7 @@ fn field_of(s: &Inserter) -> &[u8]
 
 // Whether each part of an inserter is in its range.
 #[tactic(auto, unfolding(crate::specs::Settings::sound))]
+#[inline(always)]
 fn is_sound(s: &Inserter) -> bool
     ensures { result ≡ sound s.now }
 {

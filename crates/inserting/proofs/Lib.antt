@@ -2,4 +2,5 @@
 pub mod Records
 pub mod Going
 pub mod Whole
+pub mod Sent
 pub mod Sample

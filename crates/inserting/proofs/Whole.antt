@@ -9,9 +9,10 @@ use lib.Dec.{eqb}
 use lib.ListN.{length, take, drop, get_or, length-append, length-drop, get_or-append}
 use lib.Seq.{take-append-le, drop-append-le, drop_at}
 use borrow.Author.Tests.{lt-leb}
+use Rattle.wire.specs.Reply.{Reply, refused}
 use Rattle.wire.specs.BigEndian.{be16, be32}
 use Rattle.wire.specs.Standards.{packet_length}
-use Rattle.inserter.specs.Settings.{start_of}
+use Rattle.inserter.specs.Settings.{Started, start_of}
 use Rattle.text.specs.Line.{refusal_text}
 use Rattle.text.proofs.Putting.{fronts_read}
 use Rattle.inserting.specs.declared.Insertion.{Insertion}
@@ -87,7 +88,7 @@ same_nothing : (b : Bool) → ◌≡◌ {A = List ℕ} [] (cond b [] [])
 same_nothing true = refl
 same_nothing false = refl
 
-ends_packets : (p : Place) → length p.held < record_length → [] ≡ whole_of packet_of p.insertion p.held
+pub ends_packets : (p : Place) → length p.held < record_length → [] ≡ whole_of packet_of p.insertion p.held
 ends_packets p h =
     same_nothing (eqb (length p.held) 0) ∙ whole_cut packet_of p.insertion p.held [] (eqb (length p.held) 0) refl h (packet_cut p.insertion p.held h)
 
@@ -145,3 +146,13 @@ written_in_pieces h calls r =
 pub written_short : (h : List ℕ) → length h < settings_length h → written_of h ≡ record { packets = []; lines = refusal_text 15 }
 unfolding written_of begun_by
 written_short h l = rw (lt-leb (settings_length h) (length h) l) (ap (λ (x : List ℕ). record { packets = []; lines = x }) (append-nil (refusal_text 15)))
+
+-- and so do settings that a start refuses, whatever follows
+pub written_refused : (h later : List ℕ) (k : ℕ) → length h ≡ settings_length h → (begun_by h).reply ≡ refused k
+    → written_of (h ++ later) ≡ record { packets = []; lines = refusal_text k }
+unfolding written_of
+written_refused h later k whole e =
+    let s : Insertion = first (begun_by (h ++ later)).inserter in
+    let rest : List ℕ = drop (settings_length (h ++ later)) (h ++ later) in
+    ap (λ (r : Reply (Unit {0})). written r (whole_of packet_of s rest) (whole_of line_of s rest)) (ap (λ (b : Started). b.reply) (begun_front h later whole) ∙ e)
+    ∙ ap (λ (x : List ℕ). record { packets = []; lines = x }) (append-nil (refusal_text k))

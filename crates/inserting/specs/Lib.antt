@@ -4,3 +4,4 @@ pub mod Settings
 pub mod Records
 pub mod Pieces
 pub mod Calls
+pub mod Sent

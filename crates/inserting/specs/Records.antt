@@ -9,7 +9,7 @@ use Rattle.text.specs.Line.{refusal_text}
 use Rattle.inserting.specs.declared.Counts.{Counts}
 use Rattle.inserting.specs.declared.Insertion.{Insertion}
 use Rattle.inserting.specs.Words.{record_line, mega_frame_line}
-use Rattle.inserting.specs.Settings.{settings_length, begun_by}
+use Rattle.inserting.specs.Settings.{rest_of, begun_by}
 
 -- a record: the STS (4) and its packet
 abbrev pub sts_length : ℕ
@@ -114,5 +114,4 @@ whole_of gives s i = all_of gives (records_in (length i)) s i
 unfoldable pub written_of : List ℕ → Written
 written_of i =
     let s : Insertion = first (begun_by i).inserter in
-    let rest : List ℕ = drop (settings_length i) i in
-    written (begun_by i).reply (whole_of packet_of s rest) (whole_of line_of s rest)
+    written (begun_by i).reply (whole_of packet_of s (rest_of i)) (whole_of line_of s (rest_of i))

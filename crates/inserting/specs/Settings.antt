@@ -15,7 +15,11 @@ field_length h = get_or h 13 0
 abbrev pub settings_length : List ℕ → ℕ
 settings_length h = numbers_length + field_length h
 
--- the most that settings ask for
+-- what follows them
+abbrev pub rest_of : List ℕ → List ℕ
+rest_of i = drop (settings_length i) i
+
+-- the most bytes that settings are
 abbrev pub settings_room : ℕ
 settings_room = numbers_length + 255
 

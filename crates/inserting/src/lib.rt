@@ -107,7 +107,7 @@ fn settings_in(head: &[u8]) -> Settings
     }
 }
 
-// How many bytes the settings are that begin so.
+// How many bytes the settings are that begin so, whose field's length is their last number.
 pub fn settings_length(head: &[u8]) -> usize
     ensures length { result ≡ settings_length head.now }
     ensures most { result ≤ settings_room }
@@ -138,7 +138,7 @@ fn put_opening(reply: Result<(), Refusal>, out: &mut [u8; OPENING_ROOM]) -> usiz
     page.at
 }
 
-// The next record's number, its mega-frame's, and whether a refused record has had its line.
+// The next record's number, the number of the mega-frame that it belongs to, and whether a refused record has had its line.
 #[derive(Clone, Copy, PartialEq, Eq)]
 pub struct Counts {
     pub number: u64,
@@ -272,7 +272,7 @@ impl Insertion {
         self.counts.count(self.inserter.progress.label, answer);
     }
 
-    // As many records as are whole and have room: their packets and lines, and how many bytes of these there are, and are left of the input.
+    // Puts what is sent of as many records as are whole and have room, and the lines about them. Answers how many bytes these are, and how many are left.
     fn records(&mut self, input: &[u8], out: &mut [u8], err: &mut [u8]) -> Taken
         ensures { Handled self.old input.now (handled_in (length input.now) (length out.old) (length err.old)) out.old out.new
             err.old err.new self.new result }
