@@ -30,7 +30,7 @@ use Rattle.run.specs.Book.{by_value, in_place, packet, Call, at, gap, judged, ve
 use Rattle.run.specs.Run.{hear, leave, slave_after, places}
 use Rattle.run.specs.Claim.{Timed}
 use Rattle.run.proofs.Sentences.{sentences}
-use Rattle.feed.specs.Calls.{Item, outcomes, packets, numbers, packet_at}
+use Rattle.feed.specs.Calls.{Item, packets, numbers, packet_at}
 use Rattle.feed.specs.Network.{announced, adapter_of, Startable, Hears}
 use Rattle.feed.proofs.Network.{network}
 
@@ -64,7 +64,7 @@ pub computed :
     (packets (begun t f) items ≡ (plain 5).bytes ∷ mip 0x6F ∷ null_packet ∷ (null 8).bytes ∷ (plain 9).bytes ∷ [])
     × (numbers (begun t f) items ≡ 0 ∷ 0 ∷ 0 ∷ 0 ∷ 0 ∷ [])
     × (adapter_of t items 0 ≡ some (record { label = 1; sts = 9_999_000; md = 1_100 }))
-unfolding packets numbers outcomes insert_of insert_refusal given_refusal sound progress_fits settings_refusal write_refusal sent sent_of progress_after missed cleared null_packet mip_of fields_of head_of register register_from bits_in bit_in admits is_mega_frame at_some_rate announced functions_in functions_of entries_in length_fits well_formed settings_of
+unfolding packets numbers insert_of insert_refusal given_refusal sound progress_fits settings_refusal write_refusal sent sent_of progress_after missed cleared null_packet mip_of fields_of head_of register register_from bits_in bit_in admits is_mega_frame at_some_rate announced functions_in functions_of entries_in length_fits well_formed settings_of
 computed = (refl, refl, refl)
 
 -- ---- a slave hears the notice at its place, then one that was damaged, misses 2013 packets, and gets the mark
@@ -98,5 +98,5 @@ timed = ((sentences (adapter_of t items)).times g calls ((network t f items star
 
 -- ---- a mega-frame without a null packet: 21 with its last packet, and no notice
 pub without_null : (get_or (numbers (begun t f) (replicate 2016 (plain 5))) 2015 0 ≡ 21) × (adapter_of t (replicate 2016 (plain 5)) 0 ≡ none)
-unfolding numbers outcomes insert_of insert_refusal given_refusal sound progress_fits settings_refusal write_refusal sent sent_of progress_after missed cleared null_packet admits is_mega_frame at_some_rate announced functions_in functions_of entries_in length_fits well_formed settings_of
+unfolding numbers insert_of insert_refusal given_refusal sound progress_fits settings_refusal write_refusal sent sent_of progress_after missed cleared null_packet admits is_mega_frame at_some_rate announced functions_in functions_of entries_in length_fits well_formed settings_of
 without_null = (refl, refl)

@@ -11,19 +11,17 @@ use Rattle.inserter.specs.declared.Inserter.{Inserter}
 use Rattle.inserter.specs.Settings.{sound}
 use Rattle.inserter.specs.Packet.{given_refusal, insert_refusal, Handled, sent, unless_kept, insert_of}
 use Rattle.inserter.proofs.Kept.{sent_sound}
-use Rattle.feed.specs.Calls.{Item, call_of, outcomes, sent_among, came}
+use Rattle.feed.specs.Calls.{Item, call_of, one_by_one, left_by, outcomes, sent_among, came}
 
 -- ---- packets that nothing refuses, one after another: what each leaves, and the inserter behind them
 abbrev pub sending : Inserter → Item → Handled
 sending s i = sent s i.bytes i.sts
 
 abbrev pub sends : Inserter → List Item → List Handled
-sends s [] = []
-sends s (i ∷ is) = sending s i ∷ sends (sending s i).inserter is
+sends = one_by_one sending
 
 abbrev pub behind : Inserter → List Item → Inserter
-behind s [] = s
-behind s (i ∷ is) = behind (sending s i).inserter is
+behind = left_by sending
 
 pub sends_length : (s : Inserter) (is : List Item) → length (sends s is) ≡ length is
 sends_length s [] = refl
@@ -49,7 +47,7 @@ unfolding insert_of insert_refusal
 call_is s ok i = rw ok refl
 
 pub sent_came : (s : Inserter) → sound s ≡ true → (is : List Item) → sent_among (outcomes s is) ≡ sends s (came is)
-unfolding outcomes sent
+unfolding sent
 sent_came s ok [] = refl
 sent_came s ok (i ∷ is) =
     rw (call_is s ok i) (go (given_refusal i.bytes i.sts) (sent_came (sending s i).inserter (sent_sound s i.bytes i.sts ok) is) (sent_came s ok is))

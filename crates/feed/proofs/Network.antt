@@ -41,7 +41,6 @@ use Rattle.feed.proofs.Hearing.{FromMip, from_mip, label_taken}
 
 -- ---- the inserter's own count
 after_is : (s : Inserter) → sound s ≡ true → (is : List Item) → inserter_after s is ≡ behind s (came is)
-unfolding inserter_after
 after_is s ok [] = refl
 after_is s ok (i ∷ is) =
     rw (call_is s ok i) (go (given_refusal i.bytes i.sts) (after_is (sending s i).inserter (sent_sound s i.bytes i.sts ok) is) (after_is s ok is))

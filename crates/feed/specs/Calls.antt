@@ -13,15 +13,22 @@ pub record Item : Type 0 where
 abbrev pub call_of : Inserter → Item → Handled
 call_of s i = insert_of s i.bytes i.sts
 
--- what each call leaves and replies; each gets the inserter that the last one left
-unfoldable pub outcomes : Inserter → List Item → List Handled
-outcomes s [] = []
-outcomes s (i ∷ is) = call_of s i ∷ outcomes (call_of s i).inserter is
+-- what steps leave and reply, one after another; each gets the inserter that the last one left
+abbrev pub one_by_one : (Inserter → Item → Handled) → Inserter → List Item → List Handled
+one_by_one step s [] = []
+one_by_one step s (i ∷ is) = step s i ∷ one_by_one step (step s i).inserter is
 
--- the inserter that calls leave
-unfoldable pub inserter_after : Inserter → List Item → Inserter
-inserter_after s [] = s
-inserter_after s (i ∷ is) = inserter_after (call_of s i).inserter is
+-- and the inserter behind them
+abbrev pub left_by : (Inserter → Item → Handled) → Inserter → List Item → Inserter
+left_by step s [] = s
+left_by step s (i ∷ is) = left_by step (step s i).inserter is
+
+-- of the calls
+abbrev pub outcomes : Inserter → List Item → List Handled
+outcomes = one_by_one call_of
+
+abbrev pub inserter_after : Inserter → List Item → Inserter
+inserter_after = left_by call_of
 
 -- a packet that is refused is not sent, and has no place; one with 21 is sent, and has one
 abbrev pub is_sent : Reply ℕ → Bool
