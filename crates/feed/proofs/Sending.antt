@@ -16,19 +16,19 @@ use Rattle.notice.specs.declared.Notice.{Notice}
 use Rattle.inserter.specs.declared.Settings.{Settings}
 use Rattle.inserter.specs.declared.Inserter.{Inserter}
 use Rattle.inserter.specs.Settings.{notice_at, field_of, settings_refusal, begun}
-use Rattle.inserter.specs.Packet.{cleared, is_null, null_packet, Handled}
+use Rattle.inserter.specs.Packet.{sent_number, cleared, is_null, null_packet, Handled}
 use Rattle.inserter.proofs.Judged.{some_packets, accepted}
 use Rattle.inserter.proofs.Kept.{begun_field, begun_sound}
-use Rattle.feed.specs.Calls.{Item, number_in, packets, numbers, came}
+use Rattle.feed.specs.Calls.{Item, packets, numbers, came}
 use Rattle.feed.specs.MegaFrames.{frame, has_null, left, ends, notices_before, is_mip, Sends}
 use Rattle.feed.proofs.Lists.{sends, behind, sends_length, sends_take, sends_drop, behind_both, sent_came}
-use Rattle.feed.proofs.Steps.{count_on, as_it_came, at_place, sent_bytes, sent_number, goes_on, begins_anew, rest_sent}
+use Rattle.feed.proofs.Steps.{count_on, as_it_came, at_place, sent_bytes, number_sent, goes_on, begins_anew, rest_sent}
 
 abbrev bytes_in : List Handled → List (List ℕ)
 bytes_in = map (λ h. h.bytes)
 
 abbrev numbers_in : List Handled → List ℕ
-numbers_in = map (λ h. number_in h.reply)
+numbers_in = map (λ h. sent_number h.reply)
 
 none_of : {A : Type 0} (m : ℕ) → take {A = A} m [] ≡ []
 none_of zero = refl
@@ -66,7 +66,7 @@ module _ (s : Inserter) where
   unfolding ends
   numbers_left [] l b c h = refl
   numbers_left (i ∷ is) l b c h =
-      ap₂ (λ (x : ℕ) (y : List Handled). x ∷ numbers_in y) (sent_number s i l b c) (rest_sent s i l b c is (omega (arith, h)))
+      ap₂ (λ (x : ℕ) (y : List Handled). x ∷ numbers_in y) (number_sent s i l b c) (rest_sent s i l b c is (omega (arith, h)))
       ∙ ap₂ (λ (x : ℕ) (y : List ℕ). x ∷ y) (first is (omega (arith, h)))
       (numbers_left is (suc l) (b || is_null i.bytes) (count_on b (is_null i.bytes) c) (omega (arith, h)) ∙ ap (λ (x : Bool). ends n (suc l) x is) (or_assoc b (is_null i.bytes) (has_null is)))
     where
@@ -160,8 +160,8 @@ module _ (s : Inserter) where
     numbers_frame = go (dec_le (n * k) (length is))
       where
         go : Dec (n * k ≤ length is) → frame n k (numbers_in (sends (at_place s 0 false 0) is)) ≡ ends n 0 (has_null (frame n k is)) (frame n k is)
-        go (yes h) = frame_mapped (λ h. number_in h.reply) ∙ ap numbers_in (frame_sent h) ∙ numbers_left (frame n k is) 0 false (notices_before n k is % 16) frame_short
-        go (no h) = nothing_sent (λ h. number_in h.reply) h ∙ ap (λ (x : List Item). ends n 0 (has_null x) x) (sym (nothing_came h))
+        go (yes h) = frame_mapped (λ h. sent_number h.reply) ∙ ap numbers_in (frame_sent h) ∙ numbers_left (frame n k is) 0 false (notices_before n k is % 16) frame_short
+        go (no h) = nothing_sent (λ h. sent_number h.reply) h ∙ ap (λ (x : List Item). ends n 0 (has_null x) x) (sym (nothing_came h))
 
 -- ---- one notice in a mega-frame with a null packet, and one 21 in one without
 pub mip_is : (m : Notice) (f : List ℕ) → is_mip (mip_of m f) ≡ true

@@ -13,9 +13,9 @@ use Rattle.writer.specs.Writer.{mip_of}
 use Rattle.inserter.specs.declared.Progress.{Progress}
 use Rattle.inserter.specs.declared.Inserter.{Inserter}
 use Rattle.inserter.specs.Settings.{notice_at, field_of}
-use Rattle.inserter.specs.Packet.{null_pid, null_packet, cleared, is_null, sent_of, progress_after, missed, sent}
+use Rattle.inserter.specs.Packet.{sent_number, null_pid, null_packet, cleared, is_null, sent_of, progress_after, missed, sent}
 use Rattle.inserter.proofs.Kept.{label_last, label_on}
-use Rattle.feed.specs.Calls.{Item, number_in}
+use Rattle.feed.specs.Calls.{Item}
 use Rattle.feed.proofs.Lists.{sending, sends}
 
 -- ---- the place in the mega-frame: the label, whether the notice is put, and the counter
@@ -90,9 +90,9 @@ module _ (s : Inserter) where
         go true = refl
         go false = refl
 
-    pub sent_number : number_in (sending (at_place l b c) i).reply ≡ cond (eqb (suc l) n && not (b || is_null i.bytes)) 21 0
+    pub number_sent : sent_number (sending (at_place l b c) i).reply ≡ cond (eqb (suc l) n && not (b || is_null i.bytes)) 21 0
     unfolding sent
-    sent_number = missed_by n l c b (is_null i.bytes)
+    number_sent = missed_by n l c b (is_null i.bytes)
 
     pub goes_on : suc l < n → (sending (at_place l b c) i).inserter ≡ at_place (suc l) (b || is_null i.bytes) (count_on b (is_null i.bytes) c)
     unfolding sent

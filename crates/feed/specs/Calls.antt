@@ -3,7 +3,7 @@ use Rattle.std.specs.Prelude.{ℕ, Bool, true, false, List, [], ◌∷◌, map, 
 use Rattle.wire.specs.Reply.{Reply, refused, given}
 use Rattle.times.specs.declared.Steps.{Steps}
 use Rattle.inserter.specs.declared.Inserter.{Inserter}
-use Rattle.inserter.specs.Packet.{given_refusal, Handled, insert_of}
+use Rattle.inserter.specs.Packet.{given_refusal, Handled, sent_number, insert_of}
 
 -- a call: a packet, and the STS of the next mark that is given with it
 pub record Item : Type 0 where
@@ -42,12 +42,8 @@ sent_among = filter (λ h. is_sent h.reply)
 unfoldable pub packets : Inserter → List Item → List (List ℕ)
 packets s is = map (λ h. h.bytes) (sent_among (outcomes s is))
 
-abbrev pub number_in : Reply ℕ → ℕ
-number_in (refused k) = k
-number_in (given k) = k
-
 unfoldable pub numbers : Inserter → List Item → List ℕ
-numbers s is = map (λ h. number_in h.reply) (sent_among (outcomes s is))
+numbers s is = map (λ h. sent_number h.reply) (sent_among (outcomes s is))
 
 -- what came for them: the calls that neither 1 nor 2 nor 11 refuses
 abbrev pub came : List Item → List Item

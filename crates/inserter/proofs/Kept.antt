@@ -1,11 +1,10 @@
 -- An accepted start begins a sound inserter, and a packet leaves a sound one sound: from a start on, 15 never comes.
-use mathlib.Core.Path.{◌≡◌, refl, sym, ap, ◌∙◌}
+use mathlib.Core.Path.{◌≡◌, refl, ap, ◌∙◌}
 use mathlib.Core.Bool.{Bool, true, false, cond}
-use mathlib.Core.List.{List, ◌++◌}
-use Prim.Native.Nat.{ℕ, suc, ◌+◌, ◌-◌, ◌%◌, ◌≤◌, ◌<◌}
+use mathlib.Core.List.{List}
+use Prim.Native.Nat.{ℕ, suc, ◌+◌, ◌-◌, ◌%◌, ◌<◌}
 use native.Mathlib.Omega.{arith}
-use lib.Dec.{eqb}
-use lib.ListN.{length, take, replicate}
+use lib.ListN.{length, replicate}
 use lib.Seq.{take_at}
 use Rattle.std.proofs.lemmas.Bool.{eqb-true, eqb-false}
 use Rattle.std.proofs.lemmas.Bool.Decides.{nat_tests}
@@ -18,7 +17,7 @@ use Rattle.inserter.specs.declared.Progress.{Progress}
 use Rattle.inserter.specs.declared.Inserter.{Inserter}
 use Rattle.inserter.specs.Settings.{field_of, settings_refusal, begun, progress_fits, sound}
 use Rattle.inserter.specs.Packet.{puts, is_last, progress_after, sent}
-use Rattle.inserter.proofs.Judged.{some_packets, Accepted, accepted, Sound, sound_parts}
+use Rattle.inserter.proofs.Judged.{some_packets, accepted}
 
 -- the label after the last, and after any other
 module _ (n : ℕ) (q : Progress) (h : q.label < n) where

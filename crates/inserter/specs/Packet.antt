@@ -90,6 +90,11 @@ pub record Handled : Type 0 where
 abbrev pub handled : Inserter → List ℕ → Reply ℕ → Handled
 handled s p r = record { inserter = s; bytes = p; reply = r }
 
+-- a reply's number: what refuses the packet, or that of one that is sent
+abbrev pub sent_number : Reply ℕ → ℕ
+sent_number (refused k) = k
+sent_number (given k) = k
+
 -- a packet that nothing refuses
 unfoldable pub sent : Inserter → List ℕ → Steps → Handled
 sent s p sts =

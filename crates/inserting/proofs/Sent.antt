@@ -44,7 +44,7 @@ sent_then t p (refused k) hs = refl
 sent_then t p (given k) hs = refl
 
 pub all_sent : (k : ℕ) (s : Insertion) (i : List ℕ) → record_length * k ≤ length i → all_of packet_of k s i ≡ concat (packets s.inserter (items_of k i))
-unfolding all_of items_of packets outcomes
+unfolding all_of items_of packets
 all_sent zero s i h = refl
 all_sent (suc k) s i h =
     let c : Handled = call_of s.inserter (item_of (first_of i)) in
@@ -131,7 +131,7 @@ frames_on k s rest item ok l (suc g) behind_them =
 -- so the packets of the mega-frames that have ended, and of this one so far, are those that were sent
 pub frames_behind : (k : ℕ) (s : Insertion) (i : List ℕ) → sound s.inserter ≡ true → record_length * k ≤ length i → s.counts.mega_frame + k ≤ most
     → sent_before (behind k s i) ≡ sent_before s + length (packets s.inserter (items_of k i))
-unfolding behind items_of packets outcomes
+unfolding behind items_of packets
 frames_behind zero s i ok h l = omega arith
 frames_behind (suc k) s i ok h l =
     let item : Item = item_of (first_of i) in

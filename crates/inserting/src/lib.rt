@@ -64,7 +64,8 @@ fn put_decimal(page: &mut Page, n: u64)
     put(page, digits.format(n).as_bytes());
 }
 
-// A number between two words.
+// A number between two words. Always inlined: where the words are known, their few bytes are stored without a call.
+#[inline(always)]
 fn put_between(page: &mut Page, before: &[u8], n: u64, behind: &[u8])
     requires { page.old.at + between_room before.now behind.now ≤ length page.old.out.now }
     ensures same { page.new.out.ghost_name ≡ page.old.out.ghost_name }

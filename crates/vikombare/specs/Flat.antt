@@ -9,7 +9,7 @@ use Rattle.state.specs.declared.Slave.{Slave}
 use Rattle.slave.specs.Answer.{Result}
 use Rattle.inserter.specs.declared.Inserter.{Inserter}
 use Rattle.inserter.specs.Settings.{Started}
-use Rattle.inserter.specs.Packet.{Handled}
+use Rattle.inserter.specs.Packet.{Handled, sent_number}
 use Rattle.vikombare.specs.declared.Tick.{Tick}
 use Rattle.vikombare.specs.declared.NoticeRead.{NoticeRead}
 
@@ -79,10 +79,6 @@ pub record Inserted : Type 0 where
 
 abbrev pub inserted_with : Inserter → List ℕ → ℕ → Inserted
 inserted_with s bytes k = record { inserter = s; bytes = bytes; number = k }
-
-abbrev pub sent_number : Reply ℕ → ℕ
-sent_number (refused k) = k
-sent_number (given k) = k
 
 abbrev pub flat_insert : Handled → Inserted
 flat_insert h = inserted_with h.inserter h.bytes (sent_number h.reply)
