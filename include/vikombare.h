@@ -40,10 +40,12 @@
  * vikombare_inserter_start takes the settings; then each packet of the stream goes through vikombare_insert, in the order in which it is to go out, with the
  * STS of the next mark: the time after the pulse at which the next packet with label 0 leaves. The packet with label 0 itself gets the STS of the mark n
  * packets later. The first packet has label 0. The call leaves in the packet's own buffer what is to be sent.
- * A packet that the call refuses with 15, 1, 2 or 11 is NOT to be sent: the inserter has not counted it, and if it goes out, the labels of all packets after
- * it are one off at every transmitter, until the inserter is started anew. A packet with 21 (VIKOMBARE_NO_NULL_PACKET) IS to be sent, and is counted: its
- * mega-frame ended without a null packet, and so has no notice. If one is left out, the labels are off likewise.
- * After 15 the inserter is as it was and refuses every packet: start it again. The sites then find a slip with its next notice.
+ * A packet that the call refuses with 15, 1, 2 or 11 is NOT to be sent: the inserter has not counted it. If it goes out, every label after it is one off at
+ * each transmitter, so that a mark goes out on the wrong packet, until the transmitter takes the next notice, which is a slip there. A packet with 21
+ * (VIKOMBARE_NO_NULL_PACKET) IS to be sent, and is counted: its mega-frame ended without a null packet, and so has no notice. If it is left out, the labels
+ * are off likewise.
+ * A packet refused with 11 is whole, and loses nothing if it is handed in again with an STS within the second. After 15 the inserter is as it was and refuses
+ * every packet: start it again. The first packet then has label 0, and a site whose own count differs finds a slip with the next notice.
  *
  * AN UPDATE FROM BEFORE 4.0
  * A block that was saved before 4.0 has 38 bytes and resumes as it did; `coasted`, which it does not have, is 255. Lend it without a byte behind it. Where it
@@ -100,8 +102,8 @@ enum {
     VIKOMBARE_REFUSED_DELAY = 13,             /* MD + OD is not in 0 to a second - 1; in profile 1 also MD + OD + TAD not in 1 to a second - 1. OD is the one
                                                  in force once the notice is taken */
     VIKOMBARE_REFUSED_LATE = 14,              /* a mark's own number, beside the notice's: see VIKOMBARE_MARK_DVB_LATE, _A110_LATE */
-    VIKOMBARE_REFUSED_COLD = 15,              /* the settings are outside the limits; or the slave handed in is cold, or none that an accepted call gives; or
-                                                 a part of the inserter handed in is out of its range */
+    VIKOMBARE_REFUSED_COLD = 15,              /* the settings are outside the limits (of an inserter's, n alone); or the slave handed in is cold, or none that an
+                                                 accepted call gives; or a part of the inserter handed in is out of its range */
     VIKOMBARE_REFUSED_BLOCK = 16,             /* the saved block's shape, check value, phase or ranges; a pending notice in it that 13 refuses */
     VIKOMBARE_REFUSED_BOARD = 17,             /* a sound block, but of another site, profile, n or TAD */
     VIKOMBARE_REFUSED_ROOM = 18,              /* the output has under 188 bytes (write) or 39 (save) */

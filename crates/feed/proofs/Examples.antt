@@ -50,9 +50,10 @@ plain sts = item 0x47 0x01 0x00 sts
 abbrev null : ℕ → Item
 null sts = item 0x47 0x1F 0xFF sts
 
--- a plain packet; one refused with 2; a null packet; one with the notice's PID, its error indicator set; a null packet; one refused with 11; and a plain one
+-- a plain packet; one refused with 2; a null packet; one with the notice's PID, its error indicator set; a null packet; one refused with 11; and plain ones,
+-- through the next mark
 abbrev items : List Item
-items = plain 5 ∷ item 0x46 0x1F 0xFF 5 ∷ null 9_999_000 ∷ item 0x47 0xE0 0x15 7 ∷ null 8 ∷ null 10_000_000 ∷ plain 9 ∷ []
+items = plain 5 ∷ item 0x46 0x1F 0xFF 5 ∷ null 9_999_000 ∷ item 0x47 0xE0 0x15 7 ∷ null 8 ∷ null 10_000_000 ∷ replicate 2013 (plain 9)
 
 -- the notice at label 1, whose check value was reckoned by long division, and the same with another last byte
 abbrev mip : ℕ → List ℕ
@@ -61,8 +62,8 @@ mip last =
     ∷ 0x00 ∷ 0x07 ∷ 0x04 ∷ 0x00 ∷ 0x04 ∷ 0xFF ∷ 0xFB ∷ 0xFC ∷ 0x54 ∷ 0x94 ∷ last ∷ replicate 156 0xFF
 
 pub computed :
-    (packets (begun t f) items ≡ (plain 5).bytes ∷ mip 0x6F ∷ null_packet ∷ (null 8).bytes ∷ (plain 9).bytes ∷ [])
-    × (numbers (begun t f) items ≡ 0 ∷ 0 ∷ 0 ∷ 0 ∷ 0 ∷ [])
+    (packets (begun t f) items ≡ (plain 5).bytes ∷ mip 0x6F ∷ null_packet ∷ (null 8).bytes ∷ replicate 2013 (plain 9).bytes)
+    × (numbers (begun t f) items ≡ replicate 2017 0)
     × (adapter_of t items 0 ≡ some (record { label = 1; sts = 9_999_000; md = 1_100 }))
 unfolding packets numbers insert_of insert_refusal given_refusal sound progress_fits settings_refusal write_refusal sent sent_of progress_after missed cleared null_packet mip_of fields_of head_of register register_from bits_in bit_in admits is_mega_frame at_some_rate announced functions_in functions_of entries_in length_fits well_formed settings_of
 computed = (refl, refl, refl)

@@ -157,15 +157,18 @@ module _ (t : Settings) (f : List ℕ) (is : List Item) (k : Startable t f) wher
         }
 
   module _ (m : ℕ) (a : Announced) (e : adapter_of t is m ≡ some a) where
-    pub announced_there : is_mip (packet_at (packets (begun t f) is) (t.n * m + a.label)) ≡ true
+    pub announced_there : (a.label < t.n) × (is_mip (packet_at (packets (begun t f) is) (t.n * m + a.label)) ≡ true)
     announced_there =
         let c : ℕ = notices_before t.n m (came is) % 16 in
         let w = found t f c (frame t.n m (came is)) 0 a e in
         let j = w.0 in
         let short : j < t.n = omega (arith, w.2, length-take t.n (drop (t.n * m) (came is))) in
         let same : t.n * m + j ≡ t.n * m + a.label = omega (arith, w.1) in
-        ap (λ (x : ℕ). is_mip (packet_at (packets (begun t f) is) x)) (sym same)
-        ∙ ap is_mip
-        (sym (get_or-drop (t.n * m) (packets (begun t f) is) j []) ∙ sym (get_or-take t.n (drop (t.n * m) (packets (begun t f) is)) j [] short)
-        ∙ ap (λ (x : List (List ℕ)). get_or x j []) (frames t f k.accepted is m))
-        ∙ w.3
+        (
+          omega (arith, short, w.1),
+          ap (λ (x : ℕ). is_mip (packet_at (packets (begun t f) is) x)) (sym same)
+          ∙ ap is_mip
+          (sym (get_or-drop (t.n * m) (packets (begun t f) is) j []) ∙ sym (get_or-take t.n (drop (t.n * m) (packets (begun t f) is)) j [] short)
+          ∙ ap (λ (x : List (List ℕ)). get_or x j []) (frames t f k.accepted is m))
+          ∙ w.3,
+        )

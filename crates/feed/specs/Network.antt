@@ -74,9 +74,9 @@ OwnLabel t f is p s a =
 pub record Network (t : Settings) (f : List ℕ) (is : List Item) : Type 0 where
   -- the label that it counts, after any calls, is that of the next packet's place
   pub counts : (before : List Item) → (inserter_after (begun t f) before).progress.label ≡ label_at t.n (length (came before))
-  -- every packet with the MIP's PID that it sends is such a notice, and the adapter has no other
+  -- every packet with the MIP's PID that it sends is such a notice, and the adapter has no other: where it has one in mega-frame k, that stands in it
   pub notices : (p : ℕ) → is_mip (packet_at (packets (begun t f) is) p) ≡ true → NoticeAt t f is p
-  pub no_other : (k : ℕ) (a : Announced) → adapter_of t is k ≡ some a → is_mip (packet_at (packets (begun t f) is) (t.n * k + a.label)) ≡ true
+  pub no_other : (k : ℕ) (a : Announced) → adapter_of t is k ≡ some a → (a.label < t.n) × (is_mip (packet_at (packets (begun t f) is) (t.n * k + a.label)) ≡ true)
   pub labels : (s : Slave) → s.board.n ≡ t.n → (p : ℕ) (form : Form) (tick limit : ℕ) → OwnLabel t f is p s (packet form (packet_at (packets (begun t f) is) p) tick limit)
   -- demand 3, whose premise asks of each notice taken that it is the adapter's
   pub demand : Demand3 (adapter_of t is)

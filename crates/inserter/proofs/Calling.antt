@@ -21,7 +21,8 @@ use Rattle.writer.specs.Writer.{write_refusal, mip_of, write_of, output_of}
 use Rattle.inserter.specs.declared.Settings.{Settings}
 use Rattle.inserter.specs.declared.Inserter.{Inserter}
 use Rattle.inserter.specs.Settings.{settings_refusal, at_first, zeros, begun, started, start_of}
-use Rattle.inserter.specs.Packet.{insert_refusal, Ready, null_pid, null_packet, cleared, is_null, handled, sent, unless_kept, insert_of}
+use Rattle.inserter.specs.Packet.{insert_refusal, null_pid, null_packet, cleared, is_null, handled, sent, unless_kept, insert_of}
+use Rattle.inserter.specs.Ready.{Ready}
 use Rattle.inserter.proofs.Judged.{accepted, ready_lem}
 
 -- ---- the start

@@ -15,7 +15,8 @@ use Rattle.addressing.specs.Entries.{well_formed}
 use Rattle.writer.specs.Writer.{write_refusal}
 use Rattle.inserter.specs.declared.Settings.{Settings}
 use Rattle.inserter.specs.declared.Inserter.{Inserter}
-use Rattle.inserter.specs.Packet.{given_refusal, insert_refusal, Ready}
+use Rattle.inserter.specs.Packet.{given_refusal, insert_refusal}
+use Rattle.inserter.specs.Ready.{Ready}
 use Rattle.inserter.specs.Settings.{notice_at, field_of, settings_refusal, progress_fits, sound}
 
 -- cadences have packets

@@ -1,5 +1,5 @@
 -- A packet comes with the STS of the next mark, and leaves as it must go out (document 02, Paper 1).
-use Rattle.std.specs.Prelude.{◌≡◌, ℕ, zero, suc, ◌+◌, ◌%◌, ◌≤◌, ◌<◌, Bool, cond, ◌&&◌, not, List, [], ◌∷◌, ◌++◌, length, get_or, eqb, Result, Ok, Err}
+use Rattle.std.specs.Prelude.{ℕ, zero, suc, ◌+◌, ◌%◌, Bool, cond, ◌&&◌, not, List, [], ◌∷◌, ◌++◌, length, get_or, eqb, Result, Ok, Err}
 use Rattle.wire.specs.Reply.{Reply, refused, given, must, refusal_number}
 use Rattle.wire.specs.Standards.{packet_length, sync_byte, mip_pid, dvb_second}
 use Rattle.wire.specs.declared.Refusal.{Refusal}
@@ -7,7 +7,7 @@ use Rattle.times.specs.Release.{in_second}
 use Rattle.times.specs.declared.Steps.{Steps}
 use Rattle.cadence.specs.Label.{next_label}
 use Rattle.notice.specs.Mip.{packet_identifier}
-use Rattle.writer.specs.Writer.{write_refusal, stuffing, mip_of}
+use Rattle.writer.specs.Writer.{stuffing, mip_of}
 use Rattle.inserter.specs.declared.Progress.{Progress}
 use Rattle.inserter.specs.declared.Inserter.{Inserter}
 use Rattle.inserter.specs.declared.Passed.{Passed}
@@ -25,13 +25,6 @@ given_refusal p sts =
 -- and 15 first: each keeps the inserter and the packet
 unfoldable pub insert_refusal : Inserter → List ℕ → Steps → ℕ
 insert_refusal s p sts = must (sound s) 15 (given_refusal p sts)
-
--- what a packet that none of these refuses leaves to the steps: it is whole, there is such a label and such a counter, and the notice is one that the writer writes
-pub record Ready (s : Inserter) (p : List ℕ) (sts : Steps) : Type 0 where
-  pub long : length p ≡ packet_length
-  pub label : s.progress.label < s.settings.n
-  pub continuity : s.progress.continuity ≤ 15
-  pub writes : write_refusal (length p) (notice_at s.settings s.progress.label s.progress.continuity sts) (field_of s) ≡ 0
 
 -- ---- the packet
 

@@ -6,7 +6,8 @@ ghost use Rattle.std.specs.Prelude.{◌≡◌, ◌≤◌, ◌<◌, true, length,
 ghost use Rattle.wire.specs.Reply.{reply, reply_of};
 ghost use Rattle.wire.specs.Standards.{packet_length, longest_addressing};
 ghost use Rattle.inserter.specs.Settings.{notice_at, field_of, settings_refusal, at_first, zeros, started, start_of, progress_fits, sound};
-ghost use Rattle.inserter.specs.Packet.{insert_refusal, Ready, null_packet, is_null, puts, sent_of, is_last, progress_after, missed, handled, insert_of, passed_number, passed_of};
+ghost use Rattle.inserter.specs.Packet.{insert_refusal, null_packet, is_null, puts, sent_of, is_last, progress_after, missed, handled, insert_of, passed_number, passed_of};
+ghost use Rattle.inserter.specs.Ready.{Ready};
 
 use notice::Notice;
 use times::{Steps, Unit};

@@ -1,5 +1,5 @@
-// The calls that a board's firmware links, for C: a slave's start, packets, numbers notices and gaps, its saved block, notices read and written, and the
-// inserter's start and packets. Each call that moves a slave or an inserter is lent it. include/vikombare.h is their header.
+// The calls that firmware links, for C: on a board a slave's start, packets, numbers notices and gaps, its saved block, and notices read and written; at a
+// head-end an inserter's start and packets. Each call that moves a slave or an inserter is lent it. include/vikombare.h is their header.
 // No call has a condition on its numbers: bad input gets the papers' number. C has no Option, no Result and no enum with values: a number
 // stands beside what it says.
 #![tactic(auto)]

@@ -65,7 +65,7 @@ module _ (n : Notice) (f : List ℕ) (space : ℕ) (w : Writable space n f) wher
   sealed_end : length (sealed (fields_of n f)) ≡ 25 + length f
   sealed_end = sealed_length (fields_of n f) ∙ omega (arith, fields_length n f)
 
-  pub packet_length_lem : length (mip_of n f) ≡ packet_length
+  packet_length_lem : length (mip_of n f) ≡ packet_length
   packet_length_lem =
       ap length packet_parts
       ∙ length-append (sealed (fields_of n f)) (stuffing (longest_addressing - length f))

@@ -95,7 +95,7 @@ fn put_over(dst: &mut [u8], src: &[u8])
     }
 }
 
-// Puts all of src at the front of dst; puts nothing where it does not fit. As wire::put does at 0, but byte by byte.
+// Puts all of src at the front of dst; puts nothing where it does not fit. As wire::put does at 0, but byte by byte, since a caller's src has any length.
 #[tactic(auto, unfolding(wire::specs::Put::put_at))]
 pub fn put_front(dst: &mut [u8], src: &[u8])
     ensures { dst.new ≡ put_at dst.old 0 src.now }

@@ -1,5 +1,5 @@
 -- A packet that nothing refuses is ready for the steps.
-use Rattle.inserter.specs.Packet.{Ready}
+use Rattle.inserter.specs.Ready.{Ready}
 use Rattle.inserter.proofs.Calling.{ready}
 use Rattle.inserter.proofs.insert.Goals as goal
 
