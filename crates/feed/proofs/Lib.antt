@@ -5,4 +5,5 @@ pub mod Sending
 pub mod Places
 pub mod Hearing
 pub mod Network
+pub mod Program
 pub mod Examples

@@ -2,3 +2,4 @@
 pub mod Calls
 pub mod MegaFrames
 pub mod Network
+pub mod Program

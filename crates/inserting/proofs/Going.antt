@@ -15,9 +15,8 @@ use Rattle.text.specs.Puts.{Fronts, Puts}
 use Rattle.text.proofs.Putting.{puts_length, nothing, front_then, refront}
 use Rattle.inserting.specs.declared.Insertion.{Insertion}
 use Rattle.inserting.specs.declared.Taken.{Taken}
-use Rattle.inserting.specs.Words.{line_room}
 use Rattle.inserting.specs.Records.{record_length, insertion_after, packet_of, line_of, first_of, behind, all_of}
-use Rattle.inserting.specs.Pieces.{handled_in, Handled, TakesPiece}
+use Rattle.inserting.specs.Pieces.{line_room, handled_in, Handled, TakesPiece}
 use Rattle.inserting.proofs.Records.{behind_early, all_early}
 
 -- of the first k records of i, from s on, some are left: from t on, `left` records in `rest`. What those before them give is put, and there is room for more

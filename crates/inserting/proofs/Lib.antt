@@ -2,5 +2,4 @@
 pub mod Records
 pub mod Going
 pub mod Whole
-pub mod Sent
 pub mod Sample

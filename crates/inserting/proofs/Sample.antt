@@ -12,10 +12,10 @@ use Rattle.text.specs.Decimal.{decimal_in, decimal}
 use Rattle.inserter.specs.Settings.{settings_refusal, start_of, progress_fits, sound}
 use Rattle.inserter.specs.Packet.{given_refusal, insert_refusal, cleared, sent_of, progress_after, missed, sent, insert_of}
 use Rattle.inserting.specs.declared.Insertion.{Insertion}
-use Rattle.inserting.specs.Words.{record_line, line_room}
+use Rattle.text.specs.Line.{record_line}
 use Rattle.inserting.specs.Settings.{begun_by}
 use Rattle.inserting.specs.Records.{answer_of, counted_by, sent_by, line_by, insertion_after, behind, all_of, first, Written, written_of}
-use Rattle.inserting.specs.Pieces.{handled_in, ending_of}
+use Rattle.inserting.specs.Pieces.{line_room, handled_in, ending_of}
 use Rattle.inserting.specs.Calls.{Call, gathered, came_to, place_after, Read, written_by}
 
 -- a packet with PID 0x100 whose byte 0 is given

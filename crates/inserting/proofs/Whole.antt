@@ -16,10 +16,9 @@ use Rattle.inserter.specs.Settings.{Started, start_of}
 use Rattle.text.specs.Line.{refusal_text}
 use Rattle.text.proofs.Putting.{fronts_read}
 use Rattle.inserting.specs.declared.Insertion.{Insertion}
-use Rattle.inserting.specs.Words.{line_room}
 use Rattle.inserting.specs.Settings.{numbers_length, field_length, settings_length, settings_in, field_in, begun_by}
 use Rattle.inserting.specs.Records.{record_length, packet_of, line_of, behind, all_of, first, written, whole_of, written_of}
-use Rattle.inserting.specs.Pieces.{handled_in, PieceTaken, ending_of}
+use Rattle.inserting.specs.Pieces.{line_room, handled_in, PieceTaken, ending_of}
 use Rattle.inserting.specs.Calls.{Call, Place, leave, Made, AllMade, gathered, came_to, packets_by, lines_by, place_after, begun, Read, ended_at, written_by}
 use Rattle.inserting.proofs.Records.{begun_long, behind_early, all_early, whole_then, whole_cut, packet_cut, line_cut}
 

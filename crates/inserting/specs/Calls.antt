@@ -3,10 +3,9 @@ use Rattle.std.specs.Prelude.{◌≡◌, ℕ, ◌*◌, ◌/◌, ◌≤◌, List,
 use Rattle.wire.specs.Standards.{packet_length}
 use Rattle.inserting.specs.declared.Insertion.{Insertion}
 use Rattle.inserting.specs.declared.Taken.{Taken}
-use Rattle.inserting.specs.Words.{line_room}
 use Rattle.inserting.specs.Settings.{settings_length, begun_by}
 use Rattle.inserting.specs.Records.{record_length, first, Written, written}
-use Rattle.inserting.specs.Pieces.{TakesPiece, ending_of}
+use Rattle.inserting.specs.Pieces.{line_room, TakesPiece, ending_of}
 
 -- a call: the bytes that came since the last one, how many bytes of the input it takes, the buffers before and after it, and what it leaves and answers
 pub record Call : Type 0 where

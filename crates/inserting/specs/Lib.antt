@@ -1,7 +1,5 @@
 -- The definitions of crate `inserting`, in reading order.
-pub mod Words
 pub mod Settings
 pub mod Records
 pub mod Pieces
 pub mod Calls
-pub mod Sent

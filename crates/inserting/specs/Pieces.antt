@@ -5,8 +5,12 @@ use Rattle.wire.specs.Standards.{packet_length}
 use Rattle.text.specs.Puts.{Fronts}
 use Rattle.inserting.specs.declared.Insertion.{Insertion}
 use Rattle.inserting.specs.declared.Taken.{Taken}
-use Rattle.inserting.specs.Words.{line_room}
+use Rattle.text.specs.Rooms.{record_room}
 use Rattle.inserting.specs.Records.{record_length, packet_of, line_of, line_by, behind, all_of}
+
+-- the longer of the two lines
+abbrev pub line_room : ℕ
+line_room = record_room
 
 -- as many records as are whole in so many bytes, and as have room for their packets and for their lines
 unfoldable pub handled_in : (bytes packets lines : ℕ) → ℕ

@@ -5,10 +5,9 @@ use Rattle.wire.specs.Standards.{packet_length}
 use Rattle.wire.specs.BigEndian.{be32_at}
 use Rattle.inserter.specs.declared.Inserter.{Inserter}
 use Rattle.inserter.specs.Packet.{Handled, handled, insert_of}
-use Rattle.text.specs.Line.{refusal_text}
+use Rattle.text.specs.Line.{refusal_text, record_line, mega_frame_line}
 use Rattle.inserting.specs.declared.Counts.{Counts}
 use Rattle.inserting.specs.declared.Insertion.{Insertion}
-use Rattle.inserting.specs.Words.{record_line, mega_frame_line}
 use Rattle.inserting.specs.Settings.{rest_of, begun_by}
 
 -- a record: the STS (4) and its packet

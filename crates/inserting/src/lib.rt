@@ -8,11 +8,9 @@ ghost use Rattle.wire.specs.Standards.{packet_length};
 ghost use Rattle.inserter.specs.Settings.{started};
 ghost use Rattle.inserter.specs.Packet.{handled, passed_of};
 ghost use Rattle.text.specs.Puts.{Fronts, Puts};
-ghost use Rattle.text.specs.Decimal.{decimal, most_digits};
-ghost use Rattle.inserting.specs.Words.{between, between_room, record_line, mega_frame_line, line_room};
 ghost use Rattle.inserting.specs.Settings.{settings_length, settings_room, settings_in, field_in, begun_by};
 ghost use Rattle.inserting.specs.Records.{record_length, next, first, opened, counted_by, sent_by, line_by, insertion_after, packet_of, line_of};
-ghost use Rattle.inserting.specs.Pieces.{handled_in, Handled, TakesPiece, ending_of};
+ghost use Rattle.inserting.specs.Pieces.{line_room, handled_in, Handled, TakesPiece, ending_of};
 
 use inserter::{Inserter, Passed, Progress, Settings};
 use text::Page;
@@ -29,71 +27,10 @@ const STS_LENGTH: usize = 4;
 
 pub const RECORD_LENGTH: usize = STS_LENGTH + PACKET_LENGTH;
 
-// The fixed words of the lines, and the most bytes of a line: specs/Words.antt.
-const RECORD_WORD: &[u8] = b"record ";
-
-const MEGA_FRAME_WORD: &[u8] = b"mega-frame ";
-
-const WITHOUT_WORD: &[u8] = b" without a null packet\n";
-
-const MOST_DIGITS: usize = 20;
-
+// The most bytes of a refused start's line, and of a line about a record or a mega-frame.
 pub const OPENING_ROOM: usize = text::REFUSAL_ROOM;
 
-pub const LINE_ROOM: usize = RECORD_WORD.len() + MOST_DIGITS + 1 + text::REFUSAL_ROOM;
-
-// Bytes behind what stands on a page. Each function here that puts something says that the page keeps its buffer (`same`), and asks for room.
-fn put(page: &mut Page, bytes: &[u8])
-    requires { page.old.at + length bytes.now ≤ length page.old.out.now }
-    ensures same { page.new.out.ghost_name ≡ page.old.out.ghost_name }
-    ensures puts { Puts (length bytes.now) page.old.out.now page.old.at bytes.now page.new.out.now page.new.at }
-{
-    let end = page.at + bytes.len();
-    page.out[page.at..end].copy_from_slice(bytes);
-    page.at = end;
-}
-
-// A number in decimal.
-#[tactic(auto, using(text::proofs::Decimals::decimal_is, text::proofs::Decimals::at_most_digits))]
-fn put_decimal(page: &mut Page, n: u64)
-    requires { page.old.at + most_digits ≤ length page.old.out.now }
-    ensures same { page.new.out.ghost_name ≡ page.old.out.ghost_name }
-    ensures puts { Puts most_digits page.old.out.now page.old.at (decimal n) page.new.out.now page.new.at }
-{
-    let mut digits = itoa::Buffer::new();
-    put(page, digits.format(n).as_bytes());
-}
-
-// A number between two words. Always inlined: where the words are known, their few bytes are stored without a call.
-#[inline(always)]
-fn put_between(page: &mut Page, before: &[u8], n: u64, behind: &[u8])
-    requires { page.old.at + between_room before.now behind.now ≤ length page.old.out.now }
-    ensures same { page.new.out.ghost_name ≡ page.old.out.ghost_name }
-    ensures puts { Puts (between_room before.now behind.now) page.old.out.now page.old.at (between before.now n behind.now) page.new.out.now page.new.at }
-{
-    put(page, before);
-    put_decimal(page, n);
-    put(page, behind);
-}
-
-// The line of a refused record.
-fn put_record(page: &mut Page, number: u64, k: u8)
-    requires { page.old.at + line_room ≤ length page.old.out.now }
-    ensures same { page.new.out.ghost_name ≡ page.old.out.ghost_name }
-    ensures puts { Puts line_room page.old.out.now page.old.at (record_line number k) page.new.out.now page.new.at }
-{
-    put_between(page, RECORD_WORD, number, b" ");
-    page.refusal(k);
-}
-
-// The line of a mega-frame without a null packet.
-fn put_mega_frame(page: &mut Page, number: u64)
-    requires { page.old.at + line_room ≤ length page.old.out.now }
-    ensures same { page.new.out.ghost_name ≡ page.old.out.ghost_name }
-    ensures puts { Puts line_room page.old.out.now page.old.at (mega_frame_line number) page.new.out.now page.new.at }
-{
-    put_between(page, MEGA_FRAME_WORD, number, WITHOUT_WORD);
-}
+pub const LINE_ROOM: usize = text::RECORD_ROOM;
 
 // The settings at the front of an input; bytes that are missing read as 0.
 fn settings_in(head: &[u8]) -> Settings
@@ -215,7 +152,7 @@ fn put_sent(page: &mut Page, packet: &[u8; PACKET_LENGTH], answer: Result<Passed
     ensures puts { Puts packet_length page.old.out.now page.old.at (sent_by packet.now (passed_of answer)) page.new.out.now page.new.at }
 {
     if answer.is_ok() {
-        put(page, packet);
+        page.packet(packet);
     }
 }
 
@@ -229,10 +166,10 @@ impl Counts {
     {
         match answer {
             Ok(Passed::Within) => {}
-            Ok(Passed::WithoutNotice) => put_mega_frame(page, self.mega_frame),
+            Ok(Passed::WithoutNotice) => page.without_notice(self.mega_frame),
             Err(r) => {
                 if !self.refused {
-                    put_record(page, self.number, r.number());
+                    page.refused_record(self.number, r.number());
                 }
             }
         }

@@ -5,7 +5,7 @@ use Rattle.wire.specs.Reply.{Reply, refused, given}
 use Rattle.times.specs.Release.{late, released}
 use Rattle.slave.specs.Answer.{Notice, absent, taken, slip, ignored, Mark, unmarked, untimed, due, Report}
 use Rattle.text.specs.Decimal.{decimal}
-use Rattle.text.specs.Words.{space, newline, dash, site_word, cadence_word, refused_word, end_word, taken_word, slip_word, untimed_word, late_word}
+use Rattle.text.specs.Words.{space, newline, dash, site_word, cadence_word, refused_word, end_word, taken_word, slip_word, untimed_word, late_word, record_word, mega_frame_word, without_word}
 
 -- a number behind its word
 abbrev pub worded : List ℕ → ℕ → List ℕ
@@ -52,3 +52,13 @@ site_line site n = worded site_word site ++ numbered cadence_word n
 
 unfoldable pub end_line : ℕ → List ℕ
 end_line count = numbered end_word count
+
+-- ---- the lines of the program insert (document 02, Paper 1)
+
+-- a record that is left out, and what refuses it
+unfoldable pub record_line : ℕ → ℕ → List ℕ
+record_line number k = worded record_word number ++ (space ∷ []) ++ refusal_text k
+
+-- a mega-frame without a null packet
+unfoldable pub mega_frame_line : ℕ → List ℕ
+mega_frame_line number = worded mega_frame_word number ++ without_word

@@ -1,7 +1,7 @@
--- The most bytes that each part of the log takes, computed from what is printed (`Line`): a buffer with so much room holds it.
+-- The most bytes that each part of a line takes, computed from what is printed (`Line`): a buffer with so much room holds it.
 use Rattle.std.specs.Prelude.{ℕ, ◌+◌, List, length}
 use Rattle.text.specs.Decimal.{most_digits}
-use Rattle.text.specs.Words.{site_word, cadence_word, refused_word, end_word, late_word}
+use Rattle.text.specs.Words.{site_word, cadence_word, refused_word, end_word, late_word, record_word, mega_frame_word, without_word}
 
 -- a number behind its word
 abbrev pub worded_room : List ℕ → ℕ
@@ -35,3 +35,9 @@ site_room = worded_room site_word + numbered_room cadence_word
 
 abbrev pub end_room : ℕ
 end_room = numbered_room end_word
+
+abbrev pub record_room : ℕ
+record_room = worded_room record_word + 1 + refusal_room
+
+abbrev pub mega_frame_room : ℕ
+mega_frame_room = worded_room mega_frame_word + length without_word

@@ -1,18 +1,19 @@
-// The lines of the log as text (document 01, the paragraph on the log program), put on a page one behind the other.
+// The lines of the programs as text (document 01, the paragraph on the log program; document 02, Paper 1), put on a page one behind the other.
 // Not by `Display`: nothing that `write!` promises says that it answers `Ok`, so a line with room would not be known to be put (tried).
 #![tactic(auto)]
 
 ghost use Rattle.std.specs.Prelude.{◌≡◌, [], ◌∷◌, ◌+◌, ◌-◌, ◌≤◌, length};
+ghost use Rattle.wire.specs.Standards.{packet_length};
 ghost use Rattle.times.specs.Answer.{due_in};
 ghost use Rattle.slave.specs.Answer.{due, option_of, notice_of, mark_of, report_of, answer_of};
 ghost use Rattle.text.specs.Decimal.{decimal, most_digits};
-ghost use Rattle.text.specs.Line.{worded, label_text, notice_text, mark_text, report_text, numbered, refusal_text, line_of, site_line, end_line};
-ghost use Rattle.text.specs.Rooms.{worded_room, column_room, mark_room, report_room, numbered_room, refusal_room, line_room, site_room, end_room};
+ghost use Rattle.text.specs.Line.{worded, label_text, notice_text, mark_text, report_text, numbered, refusal_text, line_of, site_line, end_line, record_line, mega_frame_line};
+ghost use Rattle.text.specs.Rooms.{worded_room, column_room, mark_room, report_room, numbered_room, refusal_room, line_room, site_room, end_room, record_room, mega_frame_room};
 ghost use Rattle.text.specs.Puts.{Puts, Placed};
 
 use slave::{Counted, MarkPart, NoticePart};
 use times::{Due, Unit};
-use wire::Refusal;
+use wire::{PACKET_LENGTH, Refusal};
 
 // The fixed words before numbers: specs/Words.antt.
 const SITE_WORD: &[u8] = b"site ";
@@ -24,6 +25,12 @@ const REFUSED_WORD: &[u8] = b"refused ";
 const END_WORD: &[u8] = b"end ";
 
 const LATE_WORD: &[u8] = b"late ";
+
+const RECORD_WORD: &[u8] = b"record ";
+
+const MEGA_FRAME_WORD: &[u8] = b"mega-frame ";
+
+const WITHOUT_WORD: &[u8] = b" without a null packet\n";
 
 // The most bytes that each part takes: specs/Rooms.antt.
 const MOST_DIGITS: usize = 20;
@@ -42,6 +49,10 @@ pub const LINE_ROOM: usize = MOST_DIGITS + 1 + REPORT_ROOM;
 pub const SITE_ROOM: usize = SITE_WORD.len() + MOST_DIGITS + CADENCE_WORD.len() + NUMBER_ROOM;
 
 pub const END_ROOM: usize = END_WORD.len() + NUMBER_ROOM;
+
+pub const RECORD_ROOM: usize = RECORD_WORD.len() + MOST_DIGITS + 1 + REFUSAL_ROOM;
+
+const MEGA_FRAME_ROOM: usize = MEGA_FRAME_WORD.len() + MOST_DIGITS + WITHOUT_WORD.len();
 
 // A lent buffer, and the byte that the next text begins at. Each method that puts something says that the page keeps its buffer (`same`), since a caller has
 // lent it and reads it afterwards, and the private ones ask for room: no fact of every page, for a page may be full.
@@ -232,5 +243,41 @@ impl Page<'_> {
             return;
         }
         self.numbered(END_WORD, count);
+    }
+
+    // The line of a record that the program insert leaves out.
+    pub fn refused_record(&mut self, number: u64, k: u8)
+        ensures same { self.new.out.ghost_name ≡ self.old.out.ghost_name }
+        ensures placed { Placed record_room self.old.out.now self.old.at (record_line number k) self.new.out.now self.new.at }
+    {
+        if self.room() < RECORD_ROOM {
+            return;
+        }
+        self.worded(RECORD_WORD, number);
+        self.byte(b' ');
+        self.refused(k);
+    }
+
+    // The line of a mega-frame without a null packet.
+    pub fn without_notice(&mut self, number: u64)
+        ensures same { self.new.out.ghost_name ≡ self.old.out.ghost_name }
+        ensures placed { Placed mega_frame_room self.old.out.now self.old.at (mega_frame_line number) self.new.out.now self.new.at }
+    {
+        if self.room() < MEGA_FRAME_ROOM {
+            return;
+        }
+        self.worded(MEGA_FRAME_WORD, number);
+        self.word(WITHOUT_WORD);
+    }
+
+    // A packet that is sent: bytes and no text, put as the lines are.
+    pub fn packet(&mut self, packet: &[u8; PACKET_LENGTH])
+        ensures same { self.new.out.ghost_name ≡ self.old.out.ghost_name }
+        ensures placed { Placed packet_length self.old.out.now self.old.at packet.now self.new.out.now self.new.at }
+    {
+        if self.room() < PACKET_LENGTH {
+            return;
+        }
+        self.word(packet);
     }
 }

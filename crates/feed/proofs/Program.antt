@@ -26,7 +26,7 @@ use Rattle.feed.proofs.Lists.{sending, call_is}
 use Rattle.inserting.specs.declared.Insertion.{Insertion}
 use Rattle.inserting.specs.Settings.{settings_length, rest_of, settings_in, field_in, begun_by}
 use Rattle.inserting.specs.Records.{record_length, answer_of, most, next, counted_by, sent_by, insertion_by, insertion_after, packet_of, first_of, behind, all_of, first, if_started, whole_of, written_of}
-use Rattle.inserting.specs.Sent.{item_of, items_of, items_in, sent_before}
+use Rattle.feed.specs.Program.{item_of, items_of, items_in, sent_before}
 use Rattle.inserting.proofs.Records.{answer_whole, whole_then}
 use Rattle.inserting.proofs.Whole.{ends_packets}
 
