@@ -6,11 +6,13 @@ say() {
     printf '%s\n' "$*" >&3
 }
 
-# proving WORD CRATE: runs rt WORD in the crate's folder, prints what it prints and ends as it ends. Each crate whose functions are proved now gets a line
+# proving WORD CRATE: runs rt WORD in the crate's folder, a program on the crate's own input, prints what it prints and ends as it ends. Each crate whose functions are proved now gets a line
 # of progress; one that was proved before is counted with no line.
 proving() {
     say "rt $1 $2: the crates that are not proved yet are proved now, which takes minutes from nothing"
-    (cd "crates/$2" && rt "$1" </dev/null 2>&1 && echo "proving ended 0" || echo "proving ended $?") | (
+    input=/dev/null
+    [ "$1" != run ] || input=stdin
+    (cd "crates/$2" && rt "$1" <"$input" 2>&1 && echo "proving ended 0" || echo "proving ended $?") | (
         while IFS= read -r line; do
             case $line in
             'proving ended '*) exit "${line##* }" ;;

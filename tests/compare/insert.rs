@@ -10,6 +10,7 @@ use crate::other::basics::DVB_SECOND;
 use crate::other::faults::{self, Fault};
 use crate::other::insert::{self, settings_length, Printed, NUMBERS, RECORD};
 use crate::other::inserter::Settings;
+use std::process::Output;
 
 const PROGRAM: &str = "target/bin/insert";
 
@@ -154,10 +155,10 @@ const ANY: u16 = 0xFFFF;
 
 const INSERT: &str = "program insert";
 
-/// What the program prints.
+/// What the program prints, and how it ends.
 fn printed(input: &[u8], how: Delivery, r: &mut Random) -> Printed {
-    let [output, errors] = pipes::printed(PROGRAM, input, how, r);
-    Printed { output, errors }
+    let Output { status, stdout, stderr } = pipes::printed(PROGRAM, input, how, r);
+    Printed { output: stdout, errors: stderr, status: status.code() }
 }
 
 /// Counts what an input and its lines have.
@@ -260,9 +261,13 @@ impl Comparison<Inputs> {
             std::fs::write(KEPT, bytes(settings, &shortest)).expect("the input is kept");
             text += &format!("\n  it is {KEPT}");
         }
-        for (whose, Printed { output, errors }) in [("ours", &ours), ("other", &other)] {
+        for (whose, Printed { output, errors, status }) in [("ours", &ours), ("other", &other)] {
             let last = Hex(output[output.len().saturating_sub(188)..].to_vec());
-            text += &format!("\n{whose}: {} bytes sent, of which the last are {last:?}\n{}", output.len(), String::from_utf8_lossy(errors));
+            text += &format!(
+                "\n{whose}: {} bytes sent, of which the last are {last:?}, status {status:?}\n{}",
+                output.len(),
+                String::from_utf8_lossy(errors)
+            );
         }
         Difference { text, whole: rows.len(), shortest: shortest.len(), again: ours != other }
     }

@@ -8,6 +8,7 @@ use crate::inputs::random::Random;
 use crate::other::basics::{self, dvb_cadences, second, Notice};
 use crate::other::faults::{self, Fault};
 use crate::other::log::{log, RECORD, SETTINGS};
+use std::process::Output;
 
 const PROGRAM: &str = "target/bin/log";
 
@@ -192,9 +193,11 @@ fn joined(notice: &[u8]) -> Option<Vec<u8>> {
     Some([tick, &nearer].concat())
 }
 
-/// What the program prints; on standard error there is nothing.
+/// What the program prints; on standard error there is nothing, and it ends with 0.
 fn printed(capture: &[u8], how: Delivery, r: &mut Random) -> Vec<u8> {
-    pipes::printed(PROGRAM, capture, how, r).concat()
+    let Output { status, stdout, stderr } = pipes::printed(PROGRAM, capture, how, r);
+    assert!(status.success(), "the log program ends with {status}");
+    [stdout, stderr].concat()
 }
 
 impl Comparison<Captures> {

@@ -3,7 +3,7 @@
 use crate::inputs::random::Random;
 use std::io::{Read, Write};
 use std::os::fd::{AsRawFd, RawFd};
-use std::process::{ChildStdin, Command, Stdio};
+use std::process::{ChildStdin, Command, Output, Stdio};
 
 /// How an input reaches the program.
 #[derive(Clone, Copy, Debug)]
@@ -78,17 +78,16 @@ fn pipe_closed(pipe: &mut ChildStdin) -> bool {
     asked.found & POLLERR != 0
 }
 
-/// What the program prints on standard output and on standard error.
-pub fn printed(program: &str, input: &[u8], delivery: Delivery, r: &mut Random) -> [Vec<u8>; 2] {
+/// What the program prints on standard output and on standard error, and how it ends.
+pub fn printed(program: &str, input: &[u8], delivery: Delivery, r: &mut Random) -> Output {
     let mut child = Command::new(program).stdin(Stdio::piped()).stdout(Stdio::piped()).stderr(Stdio::piped()).spawn().expect("the program starts");
     let (pipe, mut output, mut errors) = (child.stdin.take().unwrap(), child.stdout.take().unwrap(), child.stderr.take().unwrap());
     let mut random = Random(r.next() | 1);
-    let [mut printed, mut said] = [Vec::new(), Vec::new()];
+    let [mut stdout, mut stderr] = [Vec::new(), Vec::new()];
     std::thread::scope(|scope| {
         scope.spawn(|| deliver(pipe, input, delivery, &mut random));
-        scope.spawn(|| errors.read_to_end(&mut said).expect("the program's errors are read"));
-        output.read_to_end(&mut printed).expect("the program's output is read");
+        scope.spawn(|| errors.read_to_end(&mut stderr).expect("the program's errors are read"));
+        output.read_to_end(&mut stdout).expect("the program's output is read");
     });
-    child.wait().expect("the program ends");
-    [printed, said]
+    Output { status: child.wait().expect("the program ends"), stdout, stderr }
 }

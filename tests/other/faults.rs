@@ -331,6 +331,7 @@ faults! {
         ShortFieldJudged: "an addressing field cut short is judged as it is before 15",
         LongFieldUnread: "an addressing field above 163 bytes is refused before it is read",
         RefusedSettingsSilent: "refused settings have no line",
+        RefusedSettingsEndWith0: "refused settings end the program with 0",
         RefusedSettingsSend: "refused settings are followed by the records' own lines",
         SettingsAsRecord: "refused settings are named as a record",
         StsBehindPacket: "the STS stands behind the packet",

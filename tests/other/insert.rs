@@ -17,6 +17,8 @@ pub struct Printed {
     pub output: Vec<u8>,
     /// Lines.
     pub errors: Vec<u8>,
+    /// The exit status.
+    pub status: Option<i32>,
 }
 
 impl Printed {
@@ -50,6 +52,7 @@ pub fn open(settings: &[u8], printed: &mut Printed) -> Option<Insertion> {
     if number != 0 && !silent {
         printed.line(format!("{}refused {number}", rule("", SettingsAsRecord, "record 0 ")));
     }
+    printed.status = Some(rule(i32::from(number != 0), RefusedSettingsEndWith0, 0));
     let records = rule(0, RecordFrom1, 1);
     let mega_frames = rule(0, MegaFrameFrom1, 1);
     let opened = Insertion { inserter, records, mega_frames, ended: 0, refused: false };

@@ -13,7 +13,7 @@ const BUFFER: usize = 64 << 10;
 fn main() -> Result<()> {
     let mut input = BufReader::with_capacity(0, stdin().lock());
     let mut output = stdout().lock();
-    let mut printed = Printed { output: Vec::with_capacity(BUFFER), errors: Vec::new() };
+    let mut printed = Printed { output: Vec::with_capacity(BUFFER), errors: Vec::new(), status: None };
     let mut settings = Vec::new();
     input.by_ref().take(NUMBERS as u64).read_to_end(&mut settings)?;
     if let Some(&a) = settings.get(NUMBERS - 1) {

@@ -163,12 +163,11 @@ module _ (t : Settings) (f : List ℕ) (is : List Item) (k : Startable t f) wher
         let w = found t f c (frame t.n m (came is)) 0 a e in
         let j = w.0 in
         let short : j < t.n = omega (arith, w.2, length-take t.n (drop (t.n * m) (came is))) in
-        let same : t.n * m + j ≡ t.n * m + a.label = omega (arith, w.1) in
-        (
+        let same : t.n * m + j ≡ t.n * m + a.label = omega (arith, w.1) in (
           omega (arith, short, w.1),
           ap (λ (x : ℕ). is_mip (packet_at (packets (begun t f) is) x)) (sym same)
-          ∙ ap is_mip
-          (sym (get_or-drop (t.n * m) (packets (begun t f) is) j []) ∙ sym (get_or-take t.n (drop (t.n * m) (packets (begun t f) is)) j [] short)
-          ∙ ap (λ (x : List (List ℕ)). get_or x j []) (frames t f k.accepted is m))
-          ∙ w.3,
+              ∙ ap is_mip
+              (sym (get_or-drop (t.n * m) (packets (begun t f) is) j []) ∙ sym (get_or-take t.n (drop (t.n * m) (packets (begun t f) is)) j [] short)
+              ∙ ap (λ (x : List (List ℕ)). get_or x j []) (frames t f k.accepted is m))
+              ∙ w.3,
         )
