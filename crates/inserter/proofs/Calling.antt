@@ -6,18 +6,18 @@ use Prim.Native.Nat.{ℕ, zero, suc, ◌+◌, ◌-◌, ◌≤◌}
 use native.Mathlib.Omega.{arith}
 use lib.Dec.{eqb}
 use lib.ListN.{length, drop, replicate, length-replicate}
-use Rattle.std.specs.Prelude.{Result}
 use Rattle.std.proofs.lemmas.List.{drop_all, drop-replicate}
-use Rattle.wire.specs.Reply.{Reply, refused, given, reply, kept_by, Output}
+use Rattle.wire.specs.Reply.{Reply, refused, given, reply, kept_by}
 use Rattle.wire.specs.Put.{put_at}
 use Rattle.wire.specs.Standards.{packet_length, mip_pid, longest_addressing}
-use Rattle.wire.specs.declared.Refusal.{Refusal}
 use Rattle.wire.proofs.Puts.{put_fits}
-use Rattle.wire.proofs.Tests.{given_zero, given_output}
+use Rattle.wire.proofs.Tests.{given_zero}
 use Rattle.times.specs.declared.Steps.{Steps}
 use Rattle.notice.specs.Mip.{packet_identifier}
 use Rattle.notice.specs.declared.Notice.{Notice}
-use Rattle.writer.specs.Writer.{write_refusal, mip_of, write_of, output_of}
+use Rattle.writer.specs.Writable.{Writable}
+use Rattle.writer.specs.Writer.{mip_of, put_of}
+use Rattle.writer.proofs.Writing.{put_fitting}
 use Rattle.inserter.specs.declared.Settings.{Settings}
 use Rattle.inserter.specs.declared.Inserter.{Inserter}
 use Rattle.inserter.specs.Settings.{settings_refusal, at_first, zeros, begun, started, start_of}
@@ -66,14 +66,10 @@ null_by p = go (eqb (packet_identifier p) mip_pid)
     go true = refl
     go false = refl
 
--- a notice that no number refuses is written over all of a packet
-pub put_notice : (r : Result (Unit {0}) Refusal) (p d : List ℕ) (n : Notice) (f : List ℕ) → output_of r d ≡ write_of p n f → write_refusal (length p) n f ≡ 0
-    → length p ≡ packet_length → d ≡ mip_of n f
-unfolding write_of
-put_notice r p d n f e z h =
-    ap (λ (o : Output). o.bytes) (e ∙ given_output _ p (mip_of n f ++ drop packet_length p) z)
-    ∙ ap (λ (x : List ℕ). mip_of n f ++ x) (drop_all packet_length p (omega (arith, h)))
-    ∙ append-nil (mip_of n f)
+-- a notice that fits is put over all of a packet
+pub notice_put : (p d : List ℕ) (n : Notice) (f : List ℕ) → d ≡ put_of p n f → Writable (length p) n f → length p ≡ packet_length → d ≡ mip_of n f
+notice_put p d n f e w h =
+    e ∙ put_fitting n f p w ∙ ap (λ (x : List ℕ). mip_of n f ++ x) (drop_all packet_length p (omega (arith, h))) ∙ append-nil (mip_of n f)
 
 -- ---- the packet call
 

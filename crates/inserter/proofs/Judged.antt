@@ -13,6 +13,7 @@ use Rattle.cadence.specs.Cadence.{admits}
 use Rattle.cadence.proofs.Lengths.{admitted_range}
 use Rattle.addressing.specs.Entries.{well_formed}
 use Rattle.writer.specs.Writer.{write_refusal}
+use Rattle.writer.proofs.Writing.{judged}
 use Rattle.inserter.specs.declared.Settings.{Settings}
 use Rattle.inserter.specs.declared.Inserter.{Inserter}
 use Rattle.inserter.specs.Packet.{given_refusal, insert_refusal}
@@ -82,5 +83,5 @@ ready_lem s p sts e =
       long = long;
       label = k.label;
       continuity = k.continuity;
-      writes = writes s.settings (field_of s) (accepted s.settings (field_of s) k.settings) (length p) s.progress.label s.progress.continuity sts (omega (arith, long)) k.continuity time;
+      fits = (judged _ _ _ (writes s.settings (field_of s) (accepted s.settings (field_of s) k.settings) (length p) s.progress.label s.progress.continuity sts (omega (arith, long)) k.continuity time)).0;
     }

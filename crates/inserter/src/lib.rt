@@ -205,15 +205,15 @@ fn is_null(p: &[u8]) -> bool
     pid == MIP_PID || pid == NULL_PID
 }
 
-// Puts what leaves in the place of a packet over it, and answers whether it is the notice. The write is never refused: the settings were judged as one.
-#[tactic(auto, unfolding(crate::specs::Packet::sent_of, crate::specs::Packet::cleared), using(crate::proofs::Calling::put_notice))]
+// Puts what leaves in the place of a packet over it, and answers whether it is the notice. That is not judged again: it was, as the settings.
+#[tactic(auto, unfolding(crate::specs::Packet::sent_of, crate::specs::Packet::cleared), using(crate::proofs::Calling::notice_put))]
 fn put_sent(s: &Inserter, p: &mut [u8], sts: Steps) -> bool
     requires { Ready s.now p.old sts }
     ensures { (p.new ≡ sent_of s.now p.old sts) × (result ≡ puts s.now.progress p.old) }
 {
     if s.progress.placed == 0 && is_null(p) {
         let n = notice_at(s.settings, s.progress.label, s.progress.continuity, sts);
-        let _ = writer::write_notice(p, n, field_of(s));
+        writer::put_notice(p, n, field_of(s));
         return true;
     }
     if notice::packet_identifier(p) == MIP_PID {

@@ -7,7 +7,7 @@ use native.Mathlib.Omega.{arith}
 use lib.ListN.{length, drop, length-append, length-replicate}
 use lib.Seq.{take_at, drop_at, drop-drop, drop-append-add}
 use Rattle.std.proofs.lemmas.List.{drop-append-le, drop-replicate}
-use Rattle.wire.specs.Standards.{dvb_second}
+use Rattle.wire.specs.Standards.{packet_length, longest_addressing, dvb_second}
 use Rattle.wire.specs.Reply.{Reply, given, reply}
 use Rattle.wire.proofs.Tests.{given_zero, given_output}
 use Rattle.check_value.specs.Register.{sealed, sealed_at}
@@ -15,11 +15,12 @@ use borrow.Rule.Slice.PartMut.{put_mid}
 use Rattle.std.proofs.lemmas.Slice.{overwrites}
 use Rattle.std.proofs.lemmas.Bool.Decides.{nat_tests}
 use borrow.Author.Rules.{rules}
+use borrow.Author.Tests.{le-leb}
 use Rattle.check_value.proofs.Sealing.{seal_fits}
 use Rattle.times.specs.Release.{in_second}
 use Rattle.addressing.specs.Entries.{well_formed}
 use Rattle.writer.specs.Writable.{Writable}
-use Rattle.writer.specs.Writer.{write_refusal, head_of, fields_of, stuffing, mip_of, write_of}
+use Rattle.writer.specs.Writer.{write_refusal, head_of, fields_of, stuffing, mip_of, fits, put_of, write_of}
 use Rattle.notice.specs.declared.Notice.{Notice}
 
 pub fields_length : (n : Notice) (f : List ℕ) → length (fields_of n f) ≡ 21 + length f
@@ -68,6 +69,12 @@ packet_put n f d d' short room e =
     ∙ over_sealed (fields_of n f) (stuffing (4 + m) ++ t) (21 + a) (fields_length n f) (omega (arith, length-append (stuffing (4 + m)) t, length_stuffing (4 + m)))
     ∙ ap (λ (x : List ℕ). sealed (fields_of n f) ++ x) (drop_stuffing 4 m t)
     ∙ sym (append_assoc (sealed (fields_of n f)) (stuffing m) t)
+
+-- it is put where it fits
+pub put_fitting : (n : Notice) (f d : List ℕ) → Writable (length d) n f → put_of d n f ≡ mip_of n f ++ drop 188 d
+unfolding put_of fits
+put_fitting n f d w =
+    rw (le-leb packet_length (length d) w.room, le-leb n.continuity 15 w.counter, le-leb n.reserved 32767 w.bits, le-leb (length f) longest_addressing w.short) refl
 
 -- an accepted write gives it
 pub written : (n : Notice) (f d d' : List ℕ) → ◌≡◌ {A = Reply (Unit {0})} (given (tt {0})) (reply (write_refusal (length d) n f) (tt {0}))

@@ -1,5 +1,5 @@
 -- What the writer writes and answers: document 01's numbers 18, 19, 8, 10, 11, the first that applies, or the packet of TS 101 191 table 1.
-use Rattle.std.specs.Prelude.{ℕ, ◌+◌, ◌-◌, cond, List, [], ◌∷◌, ◌++◌, length, drop, replicate, leb, Result}
+use Rattle.std.specs.Prelude.{ℕ, ◌+◌, ◌-◌, Bool, cond, ◌&&◌, List, [], ◌∷◌, ◌++◌, length, drop, replicate, leb, Result}
 use Rattle.wire.specs.Reply.{must, Output, filled, reply_of}
 use Rattle.wire.specs.Standards.{packet_length, sync_byte, mip_pid, section_beside, longest_addressing, dvb_second}
 use Rattle.wire.specs.BigEndian.{bytes16, bytes24, bytes32}
@@ -47,6 +47,14 @@ stuffing k = replicate k 0xFF
 -- the whole packet
 unfoldable pub mip_of : Notice → List ℕ → List ℕ
 mip_of n field = sealed (fields_of n field) ++ stuffing (longest_addressing - length field)
+
+-- the packet over the first bytes of an output, where it has room and the parts have their widths; else the output as it was. What the field's form and the times
+-- are is not asked here
+unfoldable pub fits : ℕ → Notice → List ℕ → Bool
+fits room n field = leb packet_length room && leb n.continuity 15 && leb n.reserved 32767 && leb (length field) longest_addressing
+
+unfoldable pub put_of : List ℕ → Notice → List ℕ → List ℕ
+put_of out n field = cond (fits (length out) n field) (mip_of n field ++ drop packet_length out) out
 
 -- what a write leaves: a number and the output as it was, or the packet, and all bytes after it kept
 unfoldable pub write_of : List ℕ → Notice → List ℕ → Output

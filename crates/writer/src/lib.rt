@@ -1,12 +1,12 @@
 // The Mega-frame Initialization Packet, TS 101 191 clause 6, written into a lent buffer.
 #![tactic(auto)]
 
-ghost use Rattle.std.specs.Prelude.{◌≡◌, ◌≤◌, OnOk, length};
+ghost use Rattle.std.specs.Prelude.{◌≡◌, ◌≤◌, true, OnOk, length};
 ghost use Rattle.wire.specs.Standards.{longest_addressing};
 ghost use Rattle.wire.specs.Put.{put_at};
 ghost use Rattle.wire.specs.Reply.{reply, reply_of};
 ghost use Rattle.writer.specs.Writable.{Writable};
-ghost use Rattle.writer.specs.Writer.{write_refusal, flags_of, head_of, write_of, output_of};
+ghost use Rattle.writer.specs.Writer.{write_refusal, flags_of, head_of, fits, put_of, write_of, output_of};
 
 use notice::Notice;
 use wire::{ADDRESSING_START, LONGEST_ADDRESSING, PACKET_LENGTH, Refusal};
@@ -105,17 +105,41 @@ pub fn put_front(dst: &mut [u8], src: &[u8])
     }
 }
 
-// Writes a notice into the first 188 bytes of a lent buffer; a refusal leaves it as it was. The field is no part of the notice: C lends it beside.
-#[tactic(auto, unfolding(crate::specs::Writer::write_of))]
-pub fn write_notice(out: &mut [u8], n: Notice, field: &[u8]) -> Result<(), Refusal>
-    ensures { output_of result out.new ≡ write_of out.old n field.now }
+// Whether a packet has room, and its parts have their widths.
+#[tactic(auto, unfolding(crate::specs::Writer::fits))]
+fn fits(room: usize, n: Notice, field: &[u8]) -> bool
+    ensures result { result ≡ fits room n field.now }
+    ensures writable { result ≡ true → Writable room n field.now }
 {
-    check_write(out.len(), n, field)?;
+    room >= PACKET_LENGTH
+        && n.continuity <= 15
+        && n.reserved <= 32767
+        && field.len() <= LONGEST_ADDRESSING
+}
+
+// Puts a notice over the first 188 bytes of a lent buffer; puts nothing where it does not fit. For who has judged it: the field's form and the times are not
+// asked. The field is no part of the notice: C lends it beside.
+#[tactic(auto, unfolding(crate::specs::Writer::put_of))]
+pub fn put_notice(out: &mut [u8], n: Notice, field: &[u8])
+    ensures { out.new ≡ put_of out.old n field.now }
+{
+    if !fits(out.len(), n, field) {
+        return;
+    }
     let end = ADDRESSING_START + field.len();
     out[..ADDRESSING_START].copy_from_slice(&head_of(n, field.len() as u8));
     // The stuffing goes first, where its length is a constant, and the field and the check value over it.
     out[ADDRESSING_START..PACKET_LENGTH].fill(0xFF);
     put_over(&mut out[ADDRESSING_START..end], field);
     check_value::seal(out, end);
+}
+
+// Writes a notice into the first 188 bytes of a lent buffer; a refusal leaves it as it was.
+#[tactic(auto, unfolding(crate::specs::Writer::write_of))]
+pub fn write_notice(out: &mut [u8], n: Notice, field: &[u8]) -> Result<(), Refusal>
+    ensures { output_of result out.new ≡ write_of out.old n field.now }
+{
+    check_write(out.len(), n, field)?;
+    put_notice(out, n, field);
     Ok(())
 }

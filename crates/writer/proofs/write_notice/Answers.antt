@@ -1,19 +1,10 @@
--- What is written was accepted, and the pieces put one over the other are the packet.
-use Rattle.std.proofs.Common.{◌≡◌, ◌∙◌, ap, arith, length, take, drop, ℕ, ◌++◌}
-use lib.Seq.{length-take-le}
-use lib.ListN.{length-drop, replicate}
-use Rattle.writer.specs.Writer.{stuffing}
-use Rattle.writer.proofs.Writing.{packet_put, written}
+-- What is written was accepted, and so it fits.
+use Rattle.std.proofs.Common.{◌∙◌}
+use Rattle.writer.proofs.Writing.{put_fitting, written}
 use Rattle.writer.proofs.write_notice.Goals as goal
 
 pub returns : goal.returns
 returns c =
     let a = c.args in
     let w = c.in_ok-check_write.ensures in
-    let held = c.copy_from_slice.new.self ++ drop 21 a.out.now in
-    let rest : length (take 167 (drop 21 held)) ≡ 167 =
-    length-take-le 167 (drop 21 held) (omega (arith, length-drop 21 held, w.fits.room)) in
-    let filled : c.fill.new.self ≡ stuffing 167 = c.fill.ensures.after (λ y e. e) ∙ ap (λ (k : ℕ). replicate {A = ℕ} k 255) rest in
-    written a.n a.field.now a.out.now _ w.numbers
-    (packet_put a.n a.field.now a.out.now c.seal.new.out w.fits.short w.fits.room
-    (rw (c.copy_from_slice.ensures.after, c.head_of.ensures, filled, c.put_over.ensures) at c.seal.ensures))
+    written a.n a.field.now a.out.now _ w.numbers (c.put_notice.ensures ∙ put_fitting a.n a.field.now a.out.now w.fits)
