@@ -6,8 +6,8 @@ say() {
     printf '%s\n' "$*" >&3
 }
 
-# proving WORD CRATE: runs rt WORD in the crate's folder, a program on the crate's own input, prints what it prints and ends as it ends. Each crate whose functions are proved now gets a line
-# of progress; one that was proved before is counted with no line.
+# proving WORD CRATE: runs rt WORD in the crate's folder, a program on the crate's own input, prints what it prints and ends as it ends. Each crate whose
+# functions are proved now gets a line of progress; one that was proved before is counted with no line.
 proving() {
     say "rt $1 $2: the crates that are not proved yet are proved now, which takes minutes from nothing"
     input=/dev/null

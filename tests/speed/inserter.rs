@@ -1,5 +1,5 @@
-//! An inserter's packets in place, as a board links them, against the other implementation: one table of nanoseconds a call and ratios. Each call has the
-//! inserter judged anew, its addressing field too.
+//! An inserter's packets in place, as a head-end's firmware links them, against the other implementation: one table of nanoseconds a call and ratios. Each
+//! call has the inserter judged anew, its addressing field too.
 
 use super::measure::{candidate, full_field, register_by_nibbles, table, INPUTS};
 use crate::bindings::inserter::{CInserter, CInserterProgress};

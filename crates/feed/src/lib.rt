@@ -1,2 +1,2 @@
-// What an inserter sends (document 02, Paper 1): in specs/ its stream, and the network in which it is the adapter; in proofs/ that they are so. It has no code.
+// What an inserter sends (document 02, Paper 1): in specs/ its stream, the network in which it is the adapter, and the records of the program insert as calls on it; in proofs/ that they are so. It has no code.
 #![tactic(auto)]

@@ -1,4 +1,5 @@
--- What settings that a start accepts, and inserters that are sound, have passed: a notice of theirs is never refused by the writer.
+-- What settings that a start accepts, and inserters that are sound, have passed: a notice of theirs, with a counter of four bits and an STS within the second,
+-- is never refused by the writer.
 use mathlib.Core.Path.{◌≡◌}
 use mathlib.Core.Bool.{true}
 use mathlib.Core.List.{List}

@@ -2,7 +2,7 @@
 // packet.
 #![tactic(auto)]
 
-ghost use Rattle.std.specs.Prelude.{◌≡◌, ◌≤◌, ◌<◌, true, length, OnOk};
+ghost use Rattle.std.specs.Prelude.{◌≡◌, ◌≤◌, ◌<◌, length, OnOk};
 ghost use Rattle.wire.specs.Reply.{reply, reply_of};
 ghost use Rattle.wire.specs.Standards.{packet_length, longest_addressing};
 ghost use Rattle.inserter.specs.Settings.{notice_at, field_of, settings_refusal, at_first, zeros, started, start_of, progress_fits, sound};
@@ -16,7 +16,7 @@ use wire::{LONGEST_ADDRESSING, MIP_PID, PACKET_LENGTH, Refusal};
 // The PID of null packets.
 const NULL_PID: u16 = 0x1FFF;
 
-// What a start takes beside the addressing field. The flag is a number, as below, since C lends inserters that have it, and any byte may stand there.
+// What a start takes beside the addressing field. The flag is a number, as `placed` below, since C lends inserters that have it, and any byte may stand there.
 #[repr(C)]
 #[derive(Clone, Copy, PartialEq, Eq, Default)]
 pub struct Settings {

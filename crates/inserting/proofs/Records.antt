@@ -6,10 +6,11 @@ use Prim.Native.Nat.{ℕ, zero, suc, ◌+◌, ◌-◌, ◌*◌, ◌≤◌, ◌<�
 use native.Mathlib.Nat.{zero-add}
 use native.Mathlib.Omega.{arith}
 use lib.Dec.{eqb}
-use lib.ListN.{length, take, drop, length-drop}
+use lib.ListN.{length, drop, length-drop}
 use lib.Seq.{take_all, take-append-le, drop-append-le, drop-drop}
 use borrow.Author.Tests.{eq-eqb, ne_eqb, le-leb, lt-leb, eqb-true, eqb-false}
 use Rattle.wire.specs.Reply.{refused}
+use Rattle.wire.specs.Standards.{packet_length}
 use Rattle.wire.specs.BigEndian.{be32_at}
 use Rattle.cadence.specs.Cadence.{at_some_rate, is_mega_frame, admits}
 use Rattle.inserter.specs.declared.Inserter.{Inserter}
@@ -41,9 +42,10 @@ answer_whole s r h = rw (eq-eqb (length r) record_length h)
 
 -- the inserter's answer to a whole record's packet
 pub answered : (s : Inserter) (r : List ℕ) {p : List ℕ} {sts : ℕ} {a : Handled} → length r ≡ record_length
-    → p ≡ take (length r - sts_length) (drop sts_length r) → sts ≡ be32_at r 0 → a ≡ insert_of s p (record { 0 = sts }) → a ≡ answer_of s r
+    → p ≡ drop (length r - packet_length) r → sts ≡ be32_at r 0 → a ≡ insert_of s p (record { 0 = sts }) → a ≡ answer_of s r
 answered s r whole packet ticks answer =
-    let part : take (length r - sts_length) (drop sts_length r) ≡ drop sts_length r = take_all (length r - sts_length) (drop sts_length r) (omega (arith, length-drop sts_length r)) in
+    let place : length r - packet_length ≡ sts_length = omega (arith, whole) in
+    let part : drop (length r - packet_length) r ≡ drop sts_length r = ap (λ (k : ℕ). drop k r) place in
     answer ∙ (λ j. insert_of s ((packet ∙ part) j) (record { 0 = ticks j })) ∙ sym (answer_whole s r whole)
 
 -- bytes that come later do not change the records that are whole

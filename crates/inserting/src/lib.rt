@@ -2,14 +2,14 @@
 // fills the front of a buffer and answers how many bytes.
 #![tactic(auto)]
 
-ghost use Rattle.std.specs.Prelude.{◌≡◌, ◌+◌, ◌*◌, ◌≤◌, length, drop};
-ghost use Rattle.wire.specs.Reply.{Reply, reply_of};
+ghost use Rattle.std.specs.Prelude.{◌≡◌, ◌+◌, ◌*◌, ◌≤◌, length};
+ghost use Rattle.wire.specs.Reply.{reply_of};
 ghost use Rattle.wire.specs.Standards.{packet_length};
 ghost use Rattle.inserter.specs.Settings.{started};
-ghost use Rattle.inserter.specs.Packet.{handled, passed_of};
+ghost use Rattle.inserter.specs.Packet.{passed_of};
 ghost use Rattle.text.specs.Puts.{Fronts, Puts};
-ghost use Rattle.inserting.specs.Settings.{settings_length, settings_room, settings_in, field_in, begun_by};
-ghost use Rattle.inserting.specs.Records.{record_length, next, first, opened, counted_by, sent_by, line_by, insertion_after, packet_of, line_of};
+ghost use Rattle.inserting.specs.Settings.{settings_length, settings_room, settings_in, begun_by};
+ghost use Rattle.inserting.specs.Records.{record_length, first, opened, counted_by, sent_by, line_by, insertion_after, packet_of, line_of};
 ghost use Rattle.inserting.specs.Pieces.{line_room, handled_in, Handled, TakesPiece, ending_of};
 
 use inserter::{Inserter, Passed, Progress, Settings};
@@ -202,8 +202,11 @@ impl Insertion {
         ensures line { Puts line_room lines.old.out.now lines.old.at (line_of self.old bytes.now) lines.new.out.now lines.new.at }
     {
         let sts = Steps(wire::number32_at(bytes, 0));
-        let mut packet = [0; PACKET_LENGTH];
-        packet.copy_from_slice(&bytes[STS_LENGTH..]);
+        // always there: a record is whole
+        let Some((_, packet)) = bytes.split_last_chunk::<PACKET_LENGTH>() else {
+            return;
+        };
+        let mut packet = *packet;
         let answer = inserter::insert(&mut self.inserter, &mut packet, sts);
         put_sent(packets, &packet, answer);
         self.counts.put_line(lines, answer);
@@ -228,8 +231,8 @@ impl Insertion {
         }
     }
 
-    // A piece of an input stands in the first n bytes of `input`: writes the packets and the lines of its whole records, and moves what is left of it to
-    // the front. An n beyond the input is the whole input.
+    // A piece of an input stands in the first n bytes of `input`: writes the packets and the lines of as many of its records as are whole and have room, and
+    // moves what is left of it to the front. An n beyond the input is the whole input.
     pub fn take_piece(
         &mut self,
         n: usize,

@@ -1,4 +1,4 @@
--- The lines of the log (document 01, the paragraph on the log program).
+-- The lines of the programs (document 01, the paragraph on the log program; document 02, Paper 1).
 use Rattle.std.specs.Prelude.{ℕ, List, [], ◌∷◌, ◌++◌}
 use Rattle.std.proofs.Math.Option.{Option, none, some}
 use Rattle.wire.specs.Reply.{Reply, refused, given}

@@ -1,4 +1,4 @@
--- The fixed words of the log, in ASCII (document 01, "It prints fixed words").
+-- The fixed words of the programs, in ASCII (document 01, "It prints fixed words"; document 02, Paper 1).
 use Rattle.std.specs.Prelude.{ℕ, List, [], ◌∷◌, ◌++◌}
 
 abbrev pub space : ℕ

@@ -15,7 +15,7 @@ use slave::{Counted, MarkPart, NoticePart};
 use times::{Due, Unit};
 use wire::{PACKET_LENGTH, Refusal};
 
-// The fixed words before numbers: specs/Words.antt.
+// The fixed words before numbers and behind them: specs/Words.antt.
 const SITE_WORD: &[u8] = b"site ";
 
 const CADENCE_WORD: &[u8] = b" cadence ";

@@ -117,8 +117,8 @@ fn fits(room: usize, n: Notice, field: &[u8]) -> bool
         && field.len() <= LONGEST_ADDRESSING
 }
 
-// Puts a notice over the first 188 bytes of a lent buffer; puts nothing where it does not fit. For who has judged it: the field's form and the times are not
-// asked. The field is no part of the notice: C lends it beside.
+// Puts a notice over the first 188 bytes of a lent buffer; puts nothing where it does not fit. For a caller that has judged it: the field's form and the times
+// are not asked. The field is no part of the notice: C lends it beside.
 #[tactic(auto, unfolding(crate::specs::Writer::put_of))]
 pub fn put_notice(out: &mut [u8], n: Notice, field: &[u8])
     ensures { out.new ≡ put_of out.old n field.now }
