@@ -2,11 +2,9 @@
 // counted beside them: memory does not grow with the capture.
 #![tactic(auto)]
 
-ghost use Rattle.std.specs.Prelude.{◌≤◌, length, IfOk};
-
 use lines::Log;
-use std::io::{Print, Read};
-use std::{fmt, io};
+use pipes::Failure;
+use std::io::Print;
 
 // The buffers' records, and room for them and for their lines.
 const RECORDS: usize = 1024;
@@ -14,29 +12,6 @@ const RECORDS: usize = 1024;
 const INPUT_ROOM: usize = RECORDS * lines::RECORD_LENGTH;
 
 const OUTPUT_ROOM: usize = RECORDS * text::LINE_ROOM;
-
-// What ends a log before its capture has ended.
-#[derive(Drop)]
-enum Failure {
-    Read(io::Error),
-    Write(io::Error),
-}
-
-impl fmt::Display for Failure {
-    fn fmt<W: fmt::Write>(&self, f: &mut fmt::Formatter<W>) -> fmt::Result {
-        match self {
-            Failure::Read(why) => write!(f, "read: {why}"),
-            Failure::Write(why) => write!(f, "write: {why}"),
-        }
-    }
-}
-
-// Some bytes of standard input, none where it has ended.
-fn read(rt: &HostRuntime, buf: &mut [u8]) -> Result<usize, Failure>
-    ensures { IfOk result (λ n. n ≤ length buf.new) }
-{
-    rt.stdin().read(buf).map_err(Failure::Read)
-}
 
 // Writes bytes to standard output.
 fn write(rt: &HostRuntime, bytes: &[u8]) -> Result<(), Failure> {
@@ -53,7 +28,7 @@ fn follow(
 ) -> Result<(), Failure> {
     let mut held = 0;
     for _ in 0..u64::MAX {
-        let came = read(rt, &mut input[held..])?;
+        let came = pipes::read(rt, &mut input[held..])?;
         if came == 0 {
             break;
         }
@@ -66,25 +41,10 @@ fn follow(
     write(rt, &last[..end])
 }
 
-// Reads until the buffer is full, the input ends or a read fails, and answers how many bytes came. A read gives as many bytes as it likes, so no iterator
-// fits, and the library's read_exact does not say how many came.
-fn read_full(rt: &HostRuntime, buf: &mut [u8]) -> usize
-    ensures { result ≤ length buf.new }
-{
-    let mut done = 0;
-    while let Ok(came @ 1..) = read(rt, &mut buf[done..]) {
-        done += came;
-    }
-    done
-}
-
-// The whole log. Of short settings one more read tells whether the input ended or cannot be read.
+// The whole log.
 fn run(rt: &HostRuntime) -> Result<(), Failure> {
     let mut head = [0; lines::SETTINGS_LENGTH];
-    let n = read_full(rt, &mut head);
-    if n < lines::SETTINGS_LENGTH {
-        read(rt, &mut [0])?;
-    }
+    let n = pipes::read_full(rt, &mut head)?;
     let mut opening = [0; lines::OPENING_ROOM];
     let begun = lines::begin(&head[..n], &mut opening);
     write(rt, &opening[..begun.filled])?;

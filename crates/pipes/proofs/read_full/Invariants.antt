@@ -1,6 +1,6 @@
 -- What came is within the buffer, and each turn but the last brings some bytes.
 use Rattle.std.proofs.Common.{◌≡◌, ◌≤◌, ◌-◌, length}
-use Rattle.insert.proofs.read_full.Given as goal
+use Rattle.pipes.proofs.read_full.Given as goal
 
 abbrev pub invariant-loop-done : goal.invariant-loop-done
 invariant-loop-done l = (l.done ≤ length l.buf) × (length l.buf ≡ length l.initial.buf)
