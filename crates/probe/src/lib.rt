@@ -17,7 +17,7 @@ ghost use Rattle.probe.specs.Flat.{flat_settings, flat_length, flat_label};
 
 use addressing::Settings;
 use cadence::{CodeRate, Constellation};
-use replies::Step;
+use replies::{PacketReply, Step};
 use state::Slave;
 use times::{Periods, Steps, Unit};
 
@@ -147,11 +147,15 @@ pub extern "C" fn probe_mobile_place(i: u8, p: u16) -> u16
 
 // A packet by value, its notice read with this limit, with the reply as plain numbers.
 #[unsafe(no_mangle)]
-pub extern "C" fn probe_packet(mut s: Slave, p: &[u8], tick: u32, limit: usize) -> Step
+pub extern "C" fn probe_packet(s: Slave, p: &[u8], tick: u32, limit: usize) -> Step
     ensures { result ≡ flat_step (packet_of s p.now tick limit) }
 {
-    let reply = slave::packet(&mut s, p, tick, limit);
-    Step { slave: s, reply }
+    let mut step = Step {
+        slave: s,
+        reply: PacketReply::default(),
+    };
+    step.reply = slave::packet(&mut step.slave, p, tick, limit);
+    step
 }
 
 // Hands the slave back with an empty reply: what a packet by value costs before anything is done.

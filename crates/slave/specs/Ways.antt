@@ -13,6 +13,7 @@ use Rattle.slave.specs.Gap.{lost}
 use Rattle.slave.specs.Calls.{unless15}
 use Rattle.slave.specs.declared.Short.{Short}
 use Rattle.slave.specs.declared.Marked.{Marked}
+use Rattle.slave.specs.declared.Kept.{Kept}
 use Rattle.slave.specs.declared.Moved.{Moved}
 use Rattle.slave.specs.declared.Way.{Way}
 use Rattle.slave.specs.declared.Way.TheVariants as way
@@ -27,6 +28,10 @@ short_of s q =
 -- the count moves, and nothing waits any more
 abbrev pub marked_of : Slave → Marked → Result Report
 marked_of s m = left (moved_to s s.settings m.count nothing) (given (report_of m.report))
+
+-- a notice is ignored: the settings stay
+abbrev pub kept_of : Slave → Kept → Result Report
+kept_of s m = left (moved_to s s.settings m.count m.waiting) (given (report_of m.report))
 
 -- all that a packet may change
 abbrev pub moved_of : Slave → Moved → Result Report
@@ -48,5 +53,6 @@ way_of s (Ok way.Lost) = lost_by s
 way_of s (Ok way.Hunts) = left s (given (unheard_report absent))
 way_of s (Ok (way.Short q)) = short_of s q
 way_of s (Ok (way.Marked m)) = marked_of s m
+way_of s (Ok (way.Kept m)) = kept_of s m
 way_of s (Ok (way.Moved m)) = moved_of s m
 way_of s (Err r) = refused_by s r

@@ -9,7 +9,7 @@ ghost use Rattle.slave.specs.Answer.{absent, Report, Leaves, left, report_of, an
 ghost use Rattle.slave.specs.Step.{unheard_report};
 ghost use Rattle.slave.specs.Calls.{step_of, start_of, packet_of, numbers_of, gap_of};
 ghost use Rattle.judging.specs.Judge.{judge_arrived, judge_given};
-ghost use Rattle.slave.specs.Ways.{moved_of, refused_by, lost_by, way_of};
+ghost use Rattle.slave.specs.Ways.{kept_of, moved_of, refused_by, lost_by, way_of};
 
 use addressing::Settings;
 use judging::Numbers;
@@ -90,6 +90,14 @@ pub struct Marked {
     pub report: Counted,
 }
 
+// A notice is ignored: the count may move, and the waiting notice may go.
+#[derive(Clone, Copy)]
+pub struct Kept {
+    pub count: Count,
+    pub waiting: Waiting,
+    pub report: Counted,
+}
+
 // All that a packet may change.
 #[derive(Clone, Copy)]
 pub struct Moved {
@@ -107,6 +115,7 @@ pub enum Way {
     Hunts,
     Short(Short),
     Marked(Marked),
+    Kept(Kept),
     Moved(Moved),
 }
 
@@ -149,7 +158,7 @@ fn arrived(r: Ready<'_>, p: &[u8], limit: usize) -> Way
             Some(l) => Way::Short(l.pass_on()),
         },
         Ok(Some(t)) => Way::Moved(r.take(t)),
-        Err(k) => Way::Moved(r.ignore(k)),
+        Err(k) => Way::Kept(r.ignore(k)),
     }
 }
 
@@ -172,6 +181,16 @@ pub fn blank_report() -> Counted
     ensures { report_of result ≡ unheard_report absent }
 {
     steps::unheard(NoticePart::Absent)
+}
+
+// What a numbers notice that is ignored leaves, stored in the slave, and the reply.
+#[inline(always)]
+fn apply_kept<A: Answer>(s: &mut Slave, m: Kept) -> A
+    ensures { Leaves A.says s.new result (kept_of s.old m) }
+{
+    s.count = m.count;
+    s.waiting = m.waiting;
+    A::counted(m.report)
 }
 
 // All that a numbers notice may change, stored in the slave, and the reply.
@@ -231,6 +250,11 @@ macro_rules! answer_by {
                 $slave.waiting = state::nothing_waiting();
                 return <$answer as $crate::Answer>::counted(m.report);
             }
+            Ok($crate::Way::Kept(m)) => {
+                $slave.count = m.count;
+                $slave.waiting = m.waiting;
+                return <$answer as $crate::Answer>::counted(m.report);
+            }
             Ok($crate::Way::Moved(m)) => {
                 $slave.settings = m.settings;
                 $slave.count = m.count;
@@ -285,7 +309,7 @@ pub fn numbers_notice<A: Answer>(s: &mut Slave, p: &[u8], tick: u32, x: Numbers)
         }
         Err(k) => {
             let m = ready.ignore(k);
-            apply_moved(s, m)
+            apply_kept(s, m)
         }
     }
 }

@@ -5,10 +5,10 @@ ghost use Rattle.wire.specs.Reply.{refusal_number};
 ghost use Rattle.cadence.specs.Label.{next_label};
 ghost use Rattle.slave.specs.Answer.{option_of, notice_of, mark_of, report_of, untimed, unmarked};
 ghost use Rattle.slave.specs.Step.{raised, coasted_on, place_of, labelled, past, locked_at, mark_at, count_at, kept_at, counted_report, unheard_report, counted, agrees, index_before, index_after, turns, notice_taken, mark_taken, took};
-ghost use Rattle.slave.specs.Ways.{short_of, marked_of, moved_of};
+ghost use Rattle.slave.specs.Ways.{short_of, marked_of, kept_of, moved_of};
 
 use crate::ready::{Locked, Ready};
-use crate::{Counted, MarkPart, Marked, Moved, NoticePart, Short};
+use crate::{Counted, Kept, MarkPart, Marked, Moved, NoticePart, Short};
 use cadence::FRAME_MARKS;
 use judging::Taken;
 use state::{Count, LOCKED, MOST_COASTED, PENDING, Slave, UNKNOWN_INDEX, Waiting};
@@ -241,16 +241,17 @@ impl Locked<'_> {
 }
 
 impl Ready<'_> {
-    // A packet whose notice a number of C ignores: it counts. All three parts are named, though a hunting slave's stay: a way says what stands afterwards.
+    // A packet whose notice a number of C ignores: it counts. Both parts are named, though a hunting slave's stay: a way says what stands afterwards. Inlined:
+    // a packet with the error indicator takes 35 ns so, and 42 ns where what is kept comes from a call.
     #[tactic(auto, using(crate::proofs::Stepping::next_below), unfolding(crate::specs::Step::passed, crate::specs::Step::unheard, crate::specs::Step::counted))]
-    pub(crate) fn ignore(self, why: Refusal) -> Moved
-        ensures { moved_of self.entry.slave.now result ≡ counted self.entry.slave.now (refusal_number why) self.entry.tick }
+    #[inline(always)]
+    pub(crate) fn ignore(self, why: Refusal) -> Kept
+        ensures { kept_of self.entry.slave.now result ≡ counted self.entry.slave.now (refusal_number why) self.entry.tick }
     {
         let s = self.slave;
         let notice = NoticePart::Ignored(why);
         let Some(l) = self.locked() else {
-            return Moved {
-                settings: s.settings,
+            return Kept {
                 count: s.count,
                 waiting: s.waiting,
                 report: unheard(notice),
@@ -258,8 +259,7 @@ impl Ready<'_> {
         };
         let label = s.count.next;
         let after = count_at(s.count);
-        Moved {
-            settings: s.settings,
+        Kept {
             count: labelled(after, next_label(s.board.n, label)),
             waiting: kept_at(*s),
             report: counted(label, after.index, notice, l.mark()),

@@ -9,7 +9,7 @@ use Rattle.judging.specs.Judge.{judge_given}
 use Rattle.judging.specs.Judgement.{Judgement, Refuse}
 use Rattle.judging.specs.declared.Numbers.{Numbers}
 use Rattle.slave.specs.Calls.{step_of, ready_refusal, numbers_of}
-use Rattle.slave.specs.Ways.{moved_of}
+use Rattle.slave.specs.Ways.{kept_of, moved_of}
 use Rattle.slave.proofs.Calling.{numbers_is, call_refused, call_steps}
 use Rattle.slave.proofs.numbers_notice.Goals as goal
 
@@ -46,5 +46,5 @@ unfolding step_of
 returns-in-Err-judge_given g c =
     let a = c.args in
     let e = stepped a.s.now a.p.now a.tick a.x (sym c.in-Ok.ensures.refusal) false (ne_eqb _ 0 c.if-s-eq-PROFILE.false) in
-    let f : moved_of a.s.now c.ignore-m.result ≡ numbers_of a.s.now a.p.now a.tick a.x = (rw (c.in-Ok.ensures.value.0, c.in-Ok.ensures.value.1) at c.ignore-m.ensures) ∙ ap (λ (j : Judgement). step_of a.s.now j a.tick) c.in-Err-judge_given.ensures ∙ e in
-    rw (← f) c.apply_moved-in-Err-judge_given.ensures
+    let f : kept_of a.s.now c.ignore-m.result ≡ numbers_of a.s.now a.p.now a.tick a.x = (rw (c.in-Ok.ensures.value.0, c.in-Ok.ensures.value.1) at c.ignore-m.ensures) ∙ ap (λ (j : Judgement). step_of a.s.now j a.tick) c.in-Err-judge_given.ensures ∙ e in
+    rw (← f) c.apply_kept.ensures
