@@ -10,6 +10,14 @@ use Rattle.times.proofs.Whole.{plus_is, congruent, residue_less, residue_is}
 
 -- ---- a sum of u or more loses u
 module _ (u x : ℕ) where
+  pub wrap_over : u ≤ x → wrap u x ≡ x - u
+  unfolding wrap
+  wrap_over h = grind (arith, nat_tests)
+
+  pub wrap_stays : x < u → wrap u x ≡ x
+  unfolding wrap
+  wrap_stays h = grind (arith, nat_tests)
+
   pub wrap_less : x < u + u → wrap u x < u
   unfolding wrap
   wrap_less h = grind (arith, nat_tests)

@@ -1,6 +1,7 @@
 -- What holds of the times of a release, for a second of u units.
 -- Their ranges, what they are modulo u, where the wait ends, when a mark is late and by how much, and one reference time for all sites.
 use Rattle.std.proofs.Common.{◌≡◌, sym, ap, ◌∙◌, subst, true, false, ℕ, ◌+◌, ◌-◌, ◌*◌, ◌/◌, ◌%◌, ◌≤◌, ◌<◌, arith, ℤ, pos, ◌+ℤ◌, ◌-ℤ◌}
+use native.Mathlib.Nat.{mod-lt, mod-mod, mod-eq_of_lt}
 use lib.Dec.{ltb}
 use lib.Signed.{lt_z, ◌≤ℤ◌}
 use borrow.Author.Differences.{up, down}
@@ -35,6 +36,10 @@ pub record Waits (u md : ℕ) (od : ℤ) (arrival : ℕ) (t : Times) : Type 0 wh
   pub is_in_second : delay < u
   pub ends : (arrival + units) % u ≡ t.modulation
 
+-- the same, but that it ends at the modulation time modulo u
+abbrev pub WaitsModulo : (u md : ℕ) → ℤ → ℕ → Times → Type 0
+WaitsModulo u md od arrival t = Waits u md od arrival (record t { modulation = t.modulation % u })
+
 module _ (u sts md : ℕ) (od : ℤ) (fits : delay_fits u md od ≡ true) where
   pub emission_less : sts < u → emission u sts md od < u
   emission_less h = wrap_less u (plus (sts + md) od) (omega (arith, sum_apart u md od fits sts, delay_less u md od fits))
@@ -46,6 +51,10 @@ module _ (u sts md : ℕ) (od : ℤ) (fits : delay_fits u md od ≡ true) where
         emission_less = emission_less h;
         modulation_less = modulation_less u (emission u sts md od) tad (emission_less h);
       }
+
+  -- the modulation time is its own remainder
+  modulation_own : (tad : ℕ) → sts < u → modulation u (emission u sts md od) tad % u ≡ modulation u (emission u sts md od) tad
+  modulation_own tad h = mod-eq_of_lt (modulation_less u (emission u sts md od) tad (emission_less h))
 
   -- ---- the times modulo u
   pub times_residues : (tad arrival : ℕ) → sts < u → md < u → tad < u → Residues u sts md od tad (times_of u sts md od tad arrival)
@@ -65,28 +74,35 @@ module _ (u sts md : ℕ) (od : ℤ) (fits : delay_fits u md od ≡ true) where
             (modulation_residue u e tad (omega arith) ∙ wrap_residue u x));
       }
 
-  -- ---- where the wait ends: from the arrival tick on, at the modulation time
-  pub wait_ends :
-      (tad arrival : ℕ) → sts < u → tad < u
-      → residue u (pos arrival +ℤ wait_of u sts md od tad arrival) ≡ modulation u (emission u sts md od) tad
-  wait_ends tad arrival h g =
+  -- ---- where the wait ends: from the arrival tick on, at the modulation time. Of any STS, modulo u
+  pub wait_ends_modulo :
+      (tad arrival : ℕ) → tad < u
+      → residue u (pos arrival +ℤ wait_of u sts md od tad arrival) ≡ modulation u (emission u sts md od) tad % u
+  wait_ends_modulo tad arrival g =
       let x = plus (sts + md) od in
       let e = wrap u x in
       let m = modulation u e tad in
       let l = link_delay u arrival sts in
       let some : 0 < u = omega arith in
-      let c₁ = differ u (m + tad) e (modulation_residue u e tad (omega arith)) in
-      let c₂ = differ u e x (wrap_residue u x) in
-      let c₃ = differ u (l + sts) arrival (link_residue u arrival sts some) in
+      let c₁ = differ u (m % u) m (mod-mod m u) in
+      let c₂ = differ u (m + tad) e (modulation_residue u e tad (omega arith)) in
+      let c₃ = differ u e x (wrap_residue u x) in
+      let c₄ = differ u (l + sts) arrival (link_residue u arrival sts some) in
       let d : Diff (pos arrival +ℤ wait md od tad l) (arrival + x) (sts + tad + l) = record { is = omega (arith, ints, sum_whole u md od fits sts) } in
-      residue_only some d m (modulation_less u e tad (emission_less h))
-      (congruent u _ _ (e / u + x / u + arrival / u) ((m + tad) / u + e / u + (l + sts) / u) (omega arith))
+      residue_only some d (m % u) (mod-lt m some)
+      (congruent u _ _ (m / u + e / u + x / u + arrival / u) (m % u / u + (m + tad) / u + e / u + (l + sts) / u) (omega arith))
 
-  -- ---- a wait that is not late
-  pub waits :
-      (tad arrival : ℕ) → sts < u → tad < u → negative (wait_of u sts md od tad arrival) ≡ false
-      → Waits u md od arrival (times_of u sts md od tad arrival)
-  waits tad arrival h g in_time =
+  -- and of an STS within the second
+  pub wait_ends :
+      (tad arrival : ℕ) → sts < u → tad < u
+      → residue u (pos arrival +ℤ wait_of u sts md od tad arrival) ≡ modulation u (emission u sts md od) tad
+  wait_ends tad arrival h g = wait_ends_modulo tad arrival g ∙ modulation_own tad h
+
+  -- ---- a wait that is not late, of any STS
+  pub waits_modulo :
+      (tad arrival : ℕ) → tad < u → negative (wait_of u sts md od tad arrival) ≡ false
+      → WaitsModulo u md od arrival (times_of u sts md od tad arrival)
+  waits_modulo tad arrival g in_time =
       let w = wait_of u sts md od tad arrival in
       let whole : w ≡ pos (up w - down w) = omega (arith, ints) in
       record {
@@ -96,8 +112,16 @@ module _ (u sts md : ℕ) (od : ℤ) (fits : delay_fits u md od ≡ true) where
         delay_is = sym (delay_whole u md od fits);
         at_most = omega (arith, ints, delay_whole u md od fits);
         is_in_second = delay_less u md od fits;
-        ends = sym (ap (λ (z : ℤ). residue u (pos arrival +ℤ z)) whole) ∙ wait_ends tad arrival h g;
+        ends = sym (ap (λ (z : ℤ). residue u (pos arrival +ℤ z)) whole) ∙ wait_ends_modulo tad arrival g;
       }
+
+  -- and of one within the second
+  pub waits :
+      (tad arrival : ℕ) → sts < u → tad < u → negative (wait_of u sts md od tad arrival) ≡ false
+      → Waits u md od arrival (times_of u sts md od tad arrival)
+  waits tad arrival h g in_time =
+      let at : ℕ → Type 0 = λ (m : ℕ). Waits u md od arrival (record (times_of u sts md od tad arrival) { modulation = m }) in
+      subst at (modulation_own tad h) (waits_modulo tad arrival g in_time)
 
   -- ---- no wait is below −2 × (u − 1): MD + OD is not negative, and TAD and the link delay are at most u − 1 each
   pub wait_least : (tad arrival : ℕ) → tad < u → pos 0 ≤ℤ (wait_of u sts md od tad arrival +ℤ pos (2 * (u - 1)))
