@@ -27,6 +27,9 @@ pub label_of_last : (n : ℕ) → label_of n (n - 1) ≡ 0
 label_of_last n = omega arith
 
 module _ (n : ℕ) (h : 0 < n) where
+  pub label_at_below : (t : ℕ) → label_at n t < n
+  label_at_below t = mod-lt t h
+
   pub next_below : (l : ℕ) → next_label n l < n
   next_below l = mod-lt (l + 1) h
 
