@@ -6,15 +6,17 @@ use mathlib.Core.List.{List}
 use Prim.Native.Nat.{ℕ}
 use native.Mathlib.Omega.{arith}
 use lib.Dec.{eqb}
+use borrow.Author.Tests.{eq-eqb, ne_eqb}
 use Rattle.std.proofs.lemmas.Bool.Decides.{nat_tests}
 use Rattle.wire.specs.Reply.{refused, must}
+use Rattle.state.specs.Profile.{settings_kept}
 use Rattle.state.specs.Slave.{cold}
-use Rattle.state.specs.Sound.{sound}
+use Rattle.state.specs.Sound.{parts_fit, sound}
 use Rattle.state.specs.declared.Slave.{Slave}
 use Rattle.judging.specs.Judge.{unless_refused, is_empty, arrival_refusal, judge_arrived, judge_given}
 use Rattle.judging.specs.Judgement.{Judgement, Refuse}
 use Rattle.judging.specs.declared.Numbers.{Numbers}
-use Rattle.judging.proofs.Judging.{refuses}
+use Rattle.judging.proofs.Judging.{refuses, arrived_length}
 use Rattle.slave.specs.Answer.{Report, Result, left}
 use Rattle.slave.specs.Calls.{unless15, step_of, ready_refusal, packet_of, numbers_of}
 use Rattle.slave.specs.Ways.{lost_by}
@@ -64,3 +66,62 @@ module _ (s : Slave) (p : List ℕ) (tick : ℕ) where
 
     pub call_steps : ready_refusal s p tick ≡ 0 → step_of s j tick ≡ judged_call j
     call_steps e = let r = ready_sound e in rw (r.0, r.1)
+
+-- ---- the same, call by call: 15, then 1 to 3, then 20 of a numbers notice, then the step
+
+-- a slave is sound if its settings are kept, and then its parts fit
+module _ (s : Slave) where
+  pub unsound_settings : settings_kept s.board ≡ false → sound s ≡ false
+  unfolding sound
+  unsound_settings k = rw k
+
+  module _ (k : settings_kept s.board ≡ true) where
+    pub unsound_parts : parts_fit s ≡ false → sound s ≡ false
+    unfolding sound
+    unsound_parts f = rw (k, f)
+
+    pub sound_parts : parts_fit s ≡ true → sound s ≡ true
+    unfolding sound
+    sound_parts f = rw (k, f)
+
+-- 15, which leaves the cold slave
+abbrev pub refusal : {A : Type 0} → Result A
+refusal = left cold (refused 15)
+
+module _ (s : Slave) (p : List ℕ) (tick : ℕ) where
+  module _ (limit : ℕ) where
+    -- 15 of every packet, an empty one too
+    pub packet_cold : sound s ≡ false → refusal ≡ packet_of s p tick limit
+    unfolding packet_of
+    packet_cold k = rw k
+
+    module _ (k : sound s ≡ true) where
+      -- 1 to 3 leave the slave as it is; an empty packet gets none of them
+      pub packet_refused : is_empty p ≡ false → (n : ℕ) → n ≡ arrival_refusal s.board.profile p tick → (n ≡ 0 → ⊥) → left s (refused n) ≡ packet_of s p tick limit
+      unfolding packet_of step_of
+      packet_refused f n e h = rw (k, f, ← e, refuses n (judge_arrived s.board s.settings p limit) h)
+
+      -- a packet with none of them is not empty
+      pub packet_steps : arrival_refusal s.board.profile p tick ≡ 0 → (j : Judgement) → j ≡ judge_arrived s.board s.settings p limit → step_of s j tick ≡ packet_of s p tick limit
+      unfolding packet_of
+      packet_steps a j e = rw (k, arrived_length s.board.profile p tick a, a, e)
+
+  module _ (x : Numbers) where
+    pub numbers_cold : sound s ≡ false → refusal ≡ numbers_of s p tick x
+    unfolding numbers_of
+    numbers_cold k = rw k
+
+    module _ (k : sound s ≡ true) where
+      pub numbers_refused : (n : ℕ) → n ≡ arrival_refusal s.board.profile p tick → (n ≡ 0 → ⊥) → left s (refused n) ≡ numbers_of s p tick x
+      unfolding numbers_of step_of
+      numbers_refused n e h = rw (k, ← e, refuses n _ h)
+
+      module _ (a : arrival_refusal s.board.profile p tick ≡ 0) where
+        -- 20 in profile 0
+        pub numbers_20 : s.board.profile ≡ 0 → left s (refused 20) ≡ numbers_of s p tick x
+        unfolding numbers_of step_of
+        numbers_20 z = rw (k, a, eq-eqb s.board.profile 0 z)
+
+        pub numbers_steps : (s.board.profile ≡ 0 → ⊥) → (j : Judgement) → j ≡ judge_given s.board s.settings p x → step_of s j tick ≡ numbers_of s p tick x
+        unfolding numbers_of
+        numbers_steps z j e = rw (k, a, ne_eqb s.board.profile 0 z, e)
