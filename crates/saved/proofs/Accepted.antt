@@ -74,7 +74,7 @@ module _ (b : List ℕ) (bytes : Bytes b) (fits : block_fits (held b) b ≡ true
   shape : shaped b ≡ true
   shape = (fitting (held b) b fits).shape
 
-  body_held : take (length_of body) (from_body b) ≡ body_of body (held b)
+  pub body_held : take (length_of body) (from_body b) ≡ body_of body (held b)
   body_held =
       elements_are (length_of body) 0 (from_body b) (omega (arith, shape_room b shape, body_length_lem b shape, body_room (distance b) (shape_room b shape).0))
       ∙ sym (body_again (from_body b) from_bytes body)
@@ -94,7 +94,7 @@ module _ (b : List ℕ) (bytes : Bytes b) (fits : block_fits (held b) b ≡ true
         let next : length_of body + k + 1 ≡ length_of body + (k + 1) = omega arith in
         ap₂ be16 (in_trailer k) (ap (λ (j : ℕ). get_or (from_body b) j 0) next ∙ in_trailer (k + 1))
 
-    block_held : from_body b ≡ block_of body (held b)
+    pub block_held : from_body b ≡ block_of body (held b)
     block_held =
         let f = fitting (held b) b fits in
         sym

@@ -1,11 +1,12 @@
--- What save puts, and what resume answers, number by number.
+-- What save puts and answers, and what resume answers, number by number.
 use mathlib.Core.Path.{◌≡◌, refl, ap, ◌∙◌}
 use mathlib.Core.Bool.{true, false}
 use mathlib.Core.List.{List, [], ◌∷◌, ◌++◌}
-use Prim.Native.Nat.{ℕ, ◌+◌, ◌-◌, ◌≤◌}
+use Prim.Native.Nat.{ℕ, ◌+◌, ◌-◌, ◌≤◌, ◌<◌}
 use native.Mathlib.Omega.{arith}
 use lib.ListN.{length, take, drop, length-append, length-drop}
 use lib.Seq.{take_at}
+use borrow.Author.Tests.{le-leb, lt-leb}
 use Rattle.wire.specs.Reply.{refused, given}
 use Rattle.wire.specs.BigEndian.{bytes32}
 use Rattle.wire.proofs.Puts.{put_behind}
@@ -13,15 +14,31 @@ use Rattle.check_value.specs.Register.{register, sealed_at}
 use Rattle.check_value.proofs.Sealing.{seal_fits}
 use Rattle.state.specs.Profile.{settings_kept}
 use Rattle.state.specs.Slave.{cold, hunting}
+use Rattle.state.specs.Sound.{sound}
 use Rattle.state.specs.declared.Board.{Board}
 use Rattle.state.specs.declared.Slave.{Slave}
 use Rattle.slave.specs.Answer.{left}
 use Rattle.slave.specs.Calls.{start_of}
 use Rattle.saved.specs.Layout.{Body, whole, old, length_of, pair, body_fields, put_in, put_all, body_of}
-use Rattle.saved.specs.Block.{block_length, covered_of, block_of, block_fits, same_board, resume_refusal, resumed}
+use Rattle.saved.specs.Block.{block_length, covered_of, block_of, save_refusal, save_of, block_fits, same_board, resume_refusal, resumed}
 use Rattle.saved.proofs.Body.{put_packed}
 
 -- ---- save
+
+-- a refused save keeps the output, an accepted one all bytes after the block
+module _ (s : Slave) (out : List ℕ) where
+  pub save_15 : sound s ≡ false → save_of s out ≡ record { reply = refused 15; bytes = out }
+  unfolding save_of save_refusal
+  save_15 e = rw e
+
+  module _ (e : sound s ≡ true) where
+    pub save_18 : length out < block_length whole → save_of s out ≡ record { reply = refused 18; bytes = out }
+    unfolding save_of save_refusal
+    save_18 h = rw (e, lt-leb (block_length whole) (length out) h)
+
+    pub save_done : block_length whole ≤ length out → save_of s out ≡ record { reply = given tt; bytes = block_of whole s ++ drop (block_length whole) out }
+    unfolding save_of save_refusal
+    save_done h = rw (e, le-leb (block_length whole) (length out) h)
 
 pub covered_length : (body : Body) (s : Slave) → length (covered_of body s) ≡ block_length body - 4
 unfolding covered_of body_of

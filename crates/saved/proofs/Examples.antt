@@ -81,10 +81,15 @@ hunts_254 = refl
 pub old_locked : resume_of (older_block locked) (board 7) ≡ left (record locked { count = record (locked_at 2015 unknown) { coasted = 255 } }) (given tt)
 old_locked = old_resumes locked fits [] old_sound
 
--- 18: document 01's 37 bytes, and 38, which the release before this one wrote
+-- 18: document 01's 37 bytes
 abbrev Short : ℕ → Type 0
 Short k = save_of locked (replicate k 0) ≡ record { reply = refused 18; bytes = replicate k 0 }
 
+pub short_37 : Short 37
+unfolding save_of save_refusal settings_kept admits is_mega_frame at_some_rate second sound parts_fit locked_fits frequency_fits index_fits waiting_fits delay_kept delay_fits within
+short_37 = refl
+
+-- and 38, which the release before this one wrote
 pub short : Short 37 × Short 38
 unfolding save_of save_refusal settings_kept admits is_mega_frame at_some_rate second sound parts_fit locked_fits frequency_fits index_fits waiting_fits delay_kept delay_fits within
-short = (refl, refl)
+short = (short_37, refl)
