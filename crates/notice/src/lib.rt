@@ -119,7 +119,8 @@ fn individual_addressing_length(p: &[u8]) -> u8
 pub fn addressing_part(p: &[u8]) -> &[u8]
     ensures { result.now ≡ addressing_field p.now }
 {
-    let behind = p.get(ADDRESSING_START..).unwrap_or_default();
+    // where nothing is there, still a part of the lent bytes
+    let behind = p.get(ADDRESSING_START..).unwrap_or(&p[..0]);
     let a = usize::from(individual_addressing_length(p));
     behind.get(..a).unwrap_or(behind)
 }
