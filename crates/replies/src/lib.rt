@@ -5,7 +5,7 @@
 ghost use Rattle.std.specs.Prelude.{◌≡◌};
 ghost use Rattle.wire.specs.Reply.{refused, number_of, reply_of};
 ghost use Rattle.times.specs.Answer.{due_in};
-ghost use Rattle.slave.specs.Answer.{due, mark_number, notice_of, mark_of, report_of};
+ghost use Rattle.slave.specs.Answer.{ignored, due, mark_number, notice_of, mark_of, report_of};
 ghost use Rattle.replies.specs.Flat.{notice_kind, notice_number, mark_kind, mark_times, flat_mark, flat_report, flat_reply};
 
 use slave::{Answer, Counted, MarkPart, NoticePart};
@@ -147,6 +147,9 @@ impl From<MarkPart> for Mark {
     }
 }
 
+// The kind of a notice that is ignored.
+const IGNORED: u8 = 3;
+
 // The notice's part as C has it: its kind, and the number that ignores it. No From: a byte does not say which of the two it is.
 fn notice_kind(n: NoticePart) -> u8
     ensures { result ≡ notice_kind (notice_of n) }
@@ -155,7 +158,7 @@ fn notice_kind(n: NoticePart) -> u8
         NoticePart::Absent => 0,
         NoticePart::Taken => 1,
         NoticePart::Slip => 2,
-        NoticePart::Ignored(_) => 3,
+        NoticePart::Ignored(_) => IGNORED,
     }
 }
 
@@ -184,6 +187,17 @@ impl From<Counted> for PacketReply {
             place: c.place.unwrap_or(0),
             mark: c.mark.into(),
         }
+    }
+}
+
+// The report on a packet whose notice a number ignores: any number, as the definition has it; a NoticePart would allow less.
+pub fn ignored_report(c: Counted, k: u8) -> PacketReply
+    ensures { result ≡ flat_report (record (report_of c) { notice = ignored k }) }
+{
+    PacketReply {
+        notice: IGNORED,
+        ignored: k,
+        ..c.into()
     }
 }
 

@@ -3,6 +3,7 @@
 #![tactic(auto)]
 
 ghost use Rattle.std.specs.Prelude.{◌≡◌, [], ◌∷◌, ◌+◌, ◌-◌, ◌≤◌, length};
+ghost use Rattle.wire.specs.Reply.{refused};
 ghost use Rattle.wire.specs.Standards.{packet_length};
 ghost use Rattle.times.specs.Answer.{due_in};
 ghost use Rattle.slave.specs.Answer.{due, option_of, notice_of, mark_of, report_of, answer_of};
@@ -178,7 +179,7 @@ impl Page<'_> {
         self.byte(b'\n');
     }
 
-    // A refusal's number at the end of a line: any number, as the definition has it; a Refusal would allow less.
+    // A refusal's number at the end of a line: any number, as the definition has it.
     fn refused(&mut self, k: u8)
         requires { self.old.at + refusal_room ≤ length self.old.out.now }
         ensures same { self.new.out.ghost_name ≡ self.old.out.ghost_name }
@@ -210,15 +211,29 @@ impl Page<'_> {
         ensures same { self.new.out.ghost_name ≡ self.old.out.ghost_name }
         ensures placed { Placed line_room self.old.out.now self.old.at (line_of number (answer_of answer)) self.new.out.now self.new.at }
     {
+        let c = match answer {
+            Ok(c) => c,
+            Err(r) => return self.refused_line(number, r.number()),
+        };
         if self.room() < LINE_ROOM {
             return;
         }
         self.decimal(number);
         self.byte(b' ');
-        match answer {
-            Ok(c) => self.report(c),
-            Err(r) => self.refused(r.number()),
+        self.report(c);
+    }
+
+    // The line of a record, by its own number, that a number refuses: any number, as the definition has it; a Refusal would allow less.
+    pub fn refused_line(&mut self, which: u64, k: u8)
+        ensures same { self.new.out.ghost_name ≡ self.old.out.ghost_name }
+        ensures placed { Placed line_room self.old.out.now self.old.at (line_of which (refused k)) self.new.out.now self.new.at }
+    {
+        if self.room() < LINE_ROOM {
+            return;
         }
+        self.decimal(which);
+        self.byte(b' ');
+        self.refused(k);
     }
 
     // The site line.
