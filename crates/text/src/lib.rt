@@ -3,10 +3,10 @@
 #![tactic(auto)]
 
 ghost use Rattle.std.specs.Prelude.{◌≡◌, [], ◌∷◌, ◌+◌, ◌-◌, ◌≤◌, length};
-ghost use Rattle.wire.specs.Reply.{refused};
+ghost use Rattle.wire.specs.Reply.{given, refused};
 ghost use Rattle.wire.specs.Standards.{packet_length};
 ghost use Rattle.times.specs.Answer.{due_in};
-ghost use Rattle.slave.specs.Answer.{due, option_of, notice_of, mark_of, report_of, answer_of};
+ghost use Rattle.slave.specs.Answer.{ignored, due, option_of, notice_of, mark_of, report_of, answer_of};
 ghost use Rattle.text.specs.Decimal.{decimal, most_digits};
 ghost use Rattle.text.specs.Line.{worded, label_text, notice_text, mark_text, report_text, numbered, refusal_text, line_of, site_line, end_line, record_line, mega_frame_line};
 ghost use Rattle.text.specs.Rooms.{worded_room, column_room, mark_room, report_room, numbered_room, refusal_room, line_room, site_room, end_room, record_room, mega_frame_room};
@@ -159,6 +159,21 @@ impl Page<'_> {
         self.byte(b'\n');
     }
 
+    // The columns of a packet whose notice a number ignores.
+    fn ignored(&mut self, c: Counted, k: u8)
+        requires { self.old.at + report_room ≤ length self.old.out.now }
+        ensures same { self.new.out.ghost_name ≡ self.old.out.ghost_name }
+        ensures puts { Puts report_room self.old.out.now self.old.at (report_text (record (report_of c) { notice = ignored k })) self.new.out.now self.new.at }
+    {
+        let Counted { label, mark, .. } = c;
+        self.label(label);
+        self.byte(b' ');
+        self.decimal(k.into());
+        self.byte(b' ');
+        self.mark(mark);
+        self.byte(b'\n');
+    }
+
     // A number behind its word.
     fn worded(&mut self, word: &[u8], n: u64)
         requires { self.old.at + worded_room word.now ≤ length self.old.out.now }
@@ -234,6 +249,19 @@ impl Page<'_> {
         self.decimal(which);
         self.byte(b' ');
         self.refused(k);
+    }
+
+    // The line of a record whose notice a number ignores, any number likewise: what the columns say else is the report's.
+    pub fn ignored_line(&mut self, whose: u64, c: Counted, k: u8)
+        ensures same { self.new.out.ghost_name ≡ self.old.out.ghost_name }
+        ensures placed { Placed line_room self.old.out.now self.old.at (line_of whose (given (record (report_of c) { notice = ignored k }))) self.new.out.now self.new.at }
+    {
+        if self.room() < LINE_ROOM {
+            return;
+        }
+        self.decimal(whose);
+        self.byte(b' ');
+        self.ignored(c, k);
     }
 
     // The site line.
